@@ -1,0 +1,38 @@
+-- "The round marks each of the 64 tickets with one bit; the count of set bits is the number of its tickets": a set of tickets is a number
+-- whose bit k, counted from the lowest, is 1 where ticket k is a member.
+use mathlib.Core.Bool.{Bool, true, false, cond}
+use Prim.Native.Nat.{ℕ, zero, suc, _+_, _-_, _*_, _/_, _%_, _^_}
+use lib.Dec.{eqb}
+use Rattle.units.specs.Sums.{sumTo}
+use Rattle.ticket_set.specs.declared.Next.{Next}
+use Rattle.ticket_set.specs.declared.Next.the-variants.{At, Nothing}
+
+-- bit k of s: 0 or 1
+unfoldable pub bit : ℕ → ℕ → ℕ
+bit s k = s / 2 ^ k % 2
+
+abbrev pub hasTicket : ℕ → ℕ → Bool
+hasTicket s k = eqb (bit s k) 1
+
+-- s with bit k set, and with bit k cleared, whatever it was
+unfoldable pub inserted : ℕ → ℕ → ℕ
+inserted s k = s + (1 - bit s k) * 2 ^ k
+
+unfoldable pub removed : ℕ → ℕ → ℕ
+removed s k = s - bit s k * 2 ^ k
+
+-- the number of members, and the sum of f over the members
+unfoldable pub countOf : ℕ → ℕ
+countOf s = sumTo 64 (bit s)
+
+unfoldable pub sumOf : ℕ → (ℕ → ℕ) → ℕ
+sumOf s f = sumTo 64 (λ k. bit s k * f k)
+
+-- the first member among the n tickets from k on
+unfoldable pub nextFrom : ℕ → ℕ → ℕ → Next
+nextFrom zero k s = Nothing
+nextFrom (suc n) k s = cond (hasTicket s k) (At k) (nextFrom n (suc k) s)
+
+-- the least member
+unfoldable pub nextOf : ℕ → Next
+nextOf s = nextFrom 64 0 s

@@ -1,0 +1,4 @@
+pub mod Counts
+pub mod Rounding
+pub mod Sums
+pub mod Decimal
