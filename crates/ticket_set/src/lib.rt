@@ -3,7 +3,7 @@ ghost use mathlib.Core.Path.{_≡_};
 ghost use Prim.Native.Nat.{_<_};
 ghost use Rattle.ticket_set.specs.TicketSet.{hasTicket, inserted, removed, countOf, nextOf};
 
-// The least member of a set.
+// What a search for the least member finds.
 pub enum Next {
     At(u32),
     Nothing,
@@ -39,7 +39,8 @@ pub fn count(set: u64) -> u32
     u64::count_ones(set)
 }
 
-pub fn next(set: u64) -> Next
+// The least member of a set, by its trailing zeros.
+pub fn next_ticket(set: u64) -> Next
     ensures { λ r. ⌜ r ≡ nextOf set ⌝ }
 {
     if set == 0 {

@@ -1,4 +1,5 @@
 pub mod Counts
 pub mod Rounding
 pub mod Sums
+pub mod Decide
 pub mod Decimal

@@ -1,0 +1,81 @@
+-- The numbers of document 01's calls open, match, bid and claim. A price counts millionths of a quote unit per base unit.
+use mathlib.Core.Bool.{Bool, cond}
+use Prim.Native.Nat.{ℕ, _+_, _-_, _*_, min}
+use lib.Dec.{ltb}
+use Rattle.units.specs.Counts.{amount, million}
+use Rattle.units.specs.Rounding.{down, up}
+use Rattle.pricing.specs.declared.Side.{Side}
+use Rattle.pricing.specs.declared.Side.the-variants.{Buy, Sell}
+use Rattle.pricing.specs.declared.Totals.{Totals}
+use Rattle.pricing.specs.declared.Trade.{Trade}
+use Rattle.pricing.specs.declared.Share.{Share}
+
+-- ---- 5 open
+
+-- "High bound hi = r×(1,000,000 + w)/1,000,000 rounded down"
+unfoldable pub highBound : ℕ → ℕ → ℕ
+highBound r w = down (r * (million + w)) million
+
+-- "low bound lo = r×(1,000,000 - w)/1,000,000 rounded up"
+unfoldable pub lowBound : ℕ → ℕ → ℕ
+lowBound r w = up (r * (million - w)) million
+
+-- ---- 6 enter
+
+-- refusal 15: "buy limit below hi, or sell limit above lo"
+abbrev pub offLimit : Side → ℕ → ℕ → ℕ → Bool
+offLimit Buy limit hi lo = ltb limit hi
+offLimit Sell limit hi lo = ltb lo limit
+
+-- ---- 7 match
+
+-- "m = the smaller of S and Q×1,000,000/r rounded down; c = m×r/1,000,000 rounded up"
+unfoldable pub matchBase : ℕ → ℕ → ℕ → ℕ
+matchBase q s r = min s (down (q * million) r)
+
+unfoldable pub matchQuote : ℕ → ℕ → ℕ
+matchQuote m r = up (m * r) million
+
+abbrev pub trade : ℕ → ℕ → Trade
+trade m c = record { base = amount m; quote = amount c }
+
+-- "Where c×1,000,000 > hi×m, m and c become 0"
+abbrev pub tradeOr : ℕ → ℕ → ℕ → Trade
+tradeOr hi m c = cond (ltb (hi * m) (c * million)) (trade 0 0) (trade m c)
+
+unfoldable pub tradeWithin : ℕ → ℕ → ℕ → ℕ → Trade
+tradeWithin q s r hi = tradeOr hi (matchBase q s r) (matchQuote (matchBase q s r) r)
+
+-- ---- 8 bid
+
+-- "Side 1 takes base left by the sells: price hi - (hi - lo)×k/L, the quotient rounded down"; "Side 0 takes quote left by the buys:
+-- price lo + (hi - lo)×k/L, again rounded down"
+unfoldable pub auctionPrice : Side → ℕ → ℕ → ℕ → ℕ → ℕ
+auctionPrice Buy hi lo k len = lo + down ((hi - lo) * k) len
+auctionPrice Sell hi lo k len = hi - down ((hi - lo) * k) len
+
+-- side 1: "the maker pays n×price/1,000,000 rounded up"; side 0: "gets n×price/1,000,000 rounded down"
+unfoldable pub quoteFor : Side → ℕ → ℕ → ℕ
+quoteFor Buy n p = down (n * p) million
+quoteFor Sell n p = up (n * p) million
+
+-- ---- 10 claim
+
+-- "an offer o pays s = o×P/T rounded up and gets o×G/T rounded down"
+unfoldable pub sharePaid : ℕ → ℕ → ℕ → ℕ
+sharePaid o P T = up (o * P) T
+
+unfoldable pub shareGot : ℕ → ℕ → ℕ → ℕ
+shareGot o G T = down (o * G) T
+
+unfoldable pub shareOf : ℕ → Totals → Share
+shareOf o side =
+    record {
+      paid = amount (sharePaid o (side .paid .0) (side .total .0));
+      got = amount (shareGot o (side .got .0) (side .total .0));
+    }
+
+-- "At a limit, u units of quote fetch u×1,000,000/limit base, and u units of base fetch u×limit/1,000,000 quote, both rounded down"
+unfoldable pub fetches : Side → ℕ → ℕ → ℕ
+fetches Buy limit u = down (u * million) limit
+fetches Sell limit u = down (u * limit) million
