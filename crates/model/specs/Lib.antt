@@ -1,0 +1,4 @@
+pub mod State
+pub mod Answers
+pub mod Calls
+pub mod Run
