@@ -1,0 +1,30 @@
+-- `ledger::balance` meets its contract.
+use native.Mathlib.Omega.{arith}
+use borrow.Author.Needs.{needs}
+use Rattle.units.proofs.Tests.{tests}
+use Rattle.ledger.specs.Postings.{balanceOf}
+use Rattle.ledger.proofs.Laws.{balance-done, balance-row}
+use Rattle.ledger.proofs.balance.Statement.{statement}
+use Rattle.ledger.proofs.balance.Tie as tie
+
+returns : tie.Need-returns
+unfolding balanceOf
+returns c = search tests
+
+returns-2 : tie.Need-returns-2
+unfolding balanceOf
+returns-2 c = search tests
+
+row-of-requires : tie.Need-row-of-requires
+row-of-requires c κs = search needs
+
+cell-of-requires : tie.Need-cell-of-requires
+cell-of-requires c κs = search needs
+
+returns-3 : tie.Need-returns-3
+returns-3 c =
+    let s = c .before .before .before .before .args in
+    cc (balance-done (s .l) (s .member) (s .token) (omega arith) (omega arith), balance-row (s .l) (s .member) (s .token))
+
+pub balance-spec : {M : Type 1} → statement M
+balance-spec = tie.close (tie.spec returns returns-2 row-of-requires cell-of-requires returns-3)

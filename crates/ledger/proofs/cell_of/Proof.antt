@@ -1,0 +1,18 @@
+-- `ledger::cell_of` meets its contract.
+use borrow.Author.Needs.{needs}
+use Rattle.ledger.specs.Balances.{cellOf}
+use Rattle.ledger.proofs.cell_of.Statement.{statement}
+use Rattle.ledger.proofs.cell_of.Tie as tie
+
+mul-result : tie.Need-mul-result
+mul-result c = search needs
+
+element-copy-out-result : tie.Need-element-copy-out-result
+element-copy-out-result c = search needs
+
+returns : tie.Need-returns
+unfolding cellOf
+returns c = search needs
+
+pub cell-of-spec : {M : Type 1} → statement M
+cell-of-spec = tie.close (tie.spec mul-result element-copy-out-result returns)

@@ -1,0 +1,59 @@
+-- "For a market in auction, where start + L is below 4,294,967,295, one settle at a block above start + L (and not below the last block
+-- accepted) and one claim for each ticket marked bring the market back to closed: never more than 65 accepted calls."
+use Prim.Native.Nat.{ℕ, _+_, _≤_, _<_}
+use mathlib.Core.Path.{_≡_}
+use mathlib.Core.Bool.{cond}
+use mathlib.Core.List.{List, [], _∷_, map}
+use lib.Dec.{eqb}
+use lib.ListN.{length}
+use Rattle.units.specs.Counts.{largest}
+use Rattle.ticket_set.specs.TicketSet.{bit}
+use Rattle.model.specs.declared.state.Round.{Round}
+use Rattle.model.specs.declared.state.Phase.the-variants.{Closed, Auction}
+use Rattle.model.specs.declared.state.Exchange.{Exchange}
+use Rattle.model.specs.declared.call.Call.{Call}
+use Rattle.model.specs.declared.call.Call.the-variants as Call
+use Rattle.model.specs.State.{phase, lastBlock}
+use Rattle.model.specs.Answers.{codeOf}
+use Rattle.model.specs.Run.{stepOf, Reachable}
+
+-- a run of calls, without lines and rooms
+unfoldable pub afterCalls : Exchange → List Call → Exchange
+afterCalls x [] = x
+afterCalls x (c ∷ cs) = afterCalls (stepOf x c .exchange) cs
+
+-- every call of the list is accepted, one after the other
+pub data AllAccepted : Exchange → List Call → Type 0 where
+  no-call : {x : Exchange} → AllAccepted x []
+  next-call : {x : Exchange} {c : Call} {cs : List Call} → codeOf (stepOf x c .answer) ≡ 0 → AllAccepted (stepOf x c .exchange) cs → AllAccepted x (c ∷ cs)
+
+-- how often k stands in a list
+unfoldable pub times : ℕ → List ℕ → ℕ
+times k [] = 0
+times k (j ∷ js) = cond (eqb j k) 1 0 + times k js
+
+-- the list names each member of a ticket set once, in any order, and nothing else
+pub record Names (s : ℕ) (ks : List ℕ) : Type 0 where
+  pub each : (k : ℕ) → times k ks ≡ bit s k
+
+-- one settle, and one claim for each ticket
+abbrev pub windUp : ℕ → ℕ → List ℕ → List Call
+windUp market at ks = Call.Settle market at ∷ map Call.Claim ks
+
+pub record BackToClosed (x : Exchange) (market at : ℕ) (ks : List ℕ) : Type 0 where
+  pub accepted : AllAccepted x (windUp market at ks)
+  pub closed : phase (afterCalls x (windUp market at ks)) market ≡ Closed
+  pub at-most : length (windUp market at ks) ≤ 65
+
+-- of every state that calls can leave
+abbrev pub WindsUp : Type 0
+WindsUp =
+    (x : Exchange) → Reachable x → (market : ℕ) (r : Round) → phase x market ≡ Auction r
+    → (at : ℕ) → r .start .0 + r .length < at → lastBlock x ≤ at
+    → (ks : List ℕ) → Names (r .tickets) ks → BackToClosed x market at ks
+
+-- what start + L below 4,294,967,295 is for: there is such a block
+abbrev pub BlockThere : Type 0
+BlockThere =
+    (x : Exchange) (r : Round) → lastBlock x ≤ largest → r .start .0 + r .length < largest
+    → (at : ℕ) × (r .start .0 + r .length < at) × (lastBlock x ≤ at) × (at ≤ largest)

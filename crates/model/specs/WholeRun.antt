@@ -1,0 +1,137 @@
+-- Demand 3: one statement about every list of requests from the fresh state, of any engine. It uses of the engine only the answers that it gave
+-- and what document 01 lets be read off the state: balances, resting offers, the residue, and the supply that refusal 14 looks at.
+-- An engine that refuses every call meets it; that calls are accepted is what the calls' own definitions say.
+use Prim.Native.Nat.{ℕ, suc, _+_, _-_, _≤_, _<_}
+use mathlib.Core.Path.{_≡_}
+use mathlib.Core.List.{List, [], _∷_}
+use lib.ListN.{length, getD}
+use Rattle.units.specs.Counts.{amount, price}
+use Rattle.units.specs.Sums.{sumTo, sumOver, only}
+use Rattle.pricing.specs.declared.Side.{Side}
+use Rattle.pricing.specs.declared.Side.the-variants.{Buy, Sell}
+use Rattle.pricing.specs.Prices.{sharePaid, shareGot, fetches}
+use Rattle.ledger.specs.Balances.{totalIn}
+use Rattle.model.specs.declared.state.Order.{Order}
+use Rattle.model.specs.declared.state.Ticket.{Ticket}
+use Rattle.model.specs.declared.state.TicketState.{TicketState}
+use Rattle.model.specs.declared.state.TicketState.the-variants.{Free, Resting, Entered}
+use Rattle.model.specs.declared.state.Exchange.{Exchange}
+use Rattle.model.specs.declared.call.Call.the-variants as Call
+use Rattle.model.specs.declared.answer.Answer.the-variants.{Accepted}
+use Rattle.model.specs.declared.answer.Outcome.{Outcome}
+use Rattle.model.specs.State.{balance, supply, residue, ticket, freeTicket, offered, wanted, restingOr, freshExchange}
+use Rattle.model.specs.Answers.{answerLine}
+use Rattle.model.specs.Run.{Request, Engine, requestOf, eventsOf, stateAfter}
+use Rattle.model.specs.History.{Standing, standing, Part, waiting, Stage, settled, RoundLog, Current, idle, running, T, P, G, cameIn, wentOut, holds, ticketCount, Payout, EndedRound, History, historyOf}
+
+-- ---- read off the state
+
+-- all members' balances of token t
+abbrev pub balances : Exchange → ℕ → ℕ
+balances x t = totalIn (x .ledger) t
+
+-- "A ticket in a round holds nothing itself": a resting ticket's offer, where it is one of token t
+abbrev pub restingIn : TicketState → ℕ → ℕ
+restingIn Free t = 0
+restingIn (Resting o) t = only (offered (o .side) (o .market)) (o .offer .0) t
+restingIn (Entered o) t = 0
+
+unfoldable pub restingTotal : List Ticket → ℕ → ℕ
+restingTotal ts t = sumTo 64 (λ k. restingIn (getD ts k freeTicket .state) t)
+
+abbrev pub resting : Exchange → ℕ → ℕ
+resting x t = restingTotal (x .tickets) t
+
+-- ---- worked from history
+
+-- what a market's round holds of token t
+abbrev pub holdsOf : ℕ → RoundLog → ℕ → ℕ
+holdsOf n b t = only (offered Buy n) (holds b Buy) t + only (offered Sell n) (holds b Sell) t
+
+abbrev pub currentHolds : ℕ → Current → ℕ → ℕ
+currentHolds n idle t = 0
+currentHolds n (running b) t = holdsOf n b t
+
+-- what the rounds of markets 1 to 3 hold
+unfoldable pub roundsTotal : (ℕ → Current) → ℕ → ℕ
+roundsTotal f t = sumTo 3 (λ i. currentHolds (suc i) (f (suc i)) t)
+
+abbrev pub inRounds : History → ℕ → ℕ
+inRounds y t = roundsTotal (y .rounds) t
+
+-- what a round that ended put into the residue: "What it holds after that claim's own moves goes into the tray"
+abbrev pub putBy : ℕ → EndedRound → ℕ
+putBy t e = holdsOf (e .market) (e .log) t
+
+-- ---- the clauses
+
+-- every element of a list
+pub data All {A : Type 0} (Q : A → Type 0) : List A → Type 0 where
+  nil : All Q []
+  cons : {a : A} {l : List A} → Q a → All Q l → All Q (a ∷ l)
+
+-- the limit rule: a claim gets at least what one unit less than it paid fetches at its limit
+pub record LimitKept (p : Payout) : Type 0 where
+  pub kept : fetches (p .side) (p .limit) (p .s - 1) ≤ p .got
+
+-- a round never pays out more than came in
+pub record Covered (b : RoundLog) : Type 0 where
+  pub covered : (x : Side) → wentOut b x ≤ cameIn b x
+
+-- a round that ended leaves fewer units of each token than it had tickets, and nothing where it had none
+pub record EndedWell (e : EndedRound) : Type 0 where
+  pub covered : Covered (e .log)
+  pub fewer : 0 < ticketCount (e .log) → (t : ℕ) → putBy t e < ticketCount (e .log)
+  pub nothing-put : ticketCount (e .log) ≡ 0 → (t : ℕ) → putBy t e ≡ 0
+
+-- "A ticket is settled from its round's settle until its own claim"
+pub record Settled (y : History) (k market : ℕ) (side : Side) (limit o : ℕ) (b : RoundLog) : Type 0 where
+  pub ticket-range : k < 64
+  pub market-low : 0 < market
+  pub market-high : market < 4
+  pub round : y .rounds market ≡ running b
+  pub stage : b .stage ≡ settled
+  pub part : b .part k ≡ waiting side limit o
+
+abbrev pub orderWith : (member market : ℕ) (side : Side) (limit o : ℕ) → Order
+orderWith member market side limit o = record { member = member; market = market; side = side; limit = price limit; offer = amount o }
+
+-- "paying it out leaves o - s with the ticket and adds got to its member's balance": an outcome that answers s and got and does just that
+pub record PaysOut (x : Exchange) (k : ℕ) (o : Order) (s got : ℕ) (out : Outcome) : Type 0 where
+  pub accepted : out .answer ≡ Accepted s got
+  pub within : s ≤ o .offer .0
+  -- the ticket rests with the same order and o - s, or is free at 0; every other ticket is as it was
+  pub rest : ticket (out .exchange) k ≡ restingOr o (o .offer .0 - s)
+  pub other-tickets : (j : ℕ) → (j ≡ k → ⊥) → ticket (out .exchange) j ≡ ticket x j
+  -- its member has got more of the token that its side wants; every other balance is as it was
+  pub payment : (t : ℕ) → t < 4 → balance (out .exchange) (o .member) t ≡ balance x (o .member) t + only (wanted (o .side) (o .market)) got t
+  pub other-balances : (m t : ℕ) → (m ≡ o .member → ⊥) → balance (out .exchange) m t ≡ balance x m t
+
+-- what holds after a list, of the engine, the state that it left and the history of its answers
+pub record Whole (f : Engine) (x : Exchange) (y : History) : Type 0 where
+  -- conservation, per token
+  pub conserved : (t : ℕ) → t < 4 → balances x t + resting x t + inRounds y t + residue x t + y .withdrawn t ≡ y .deposited t
+  -- what refusal 14 looks at is the accepted deposits less the accepted withdrawals
+  pub supplied : (t : ℕ) → t < 4 → supply x t + y .withdrawn t ≡ y .deposited t
+  -- a running round can pay what it owes
+  pub solvent : (n : ℕ) → 0 < n → n < 4 → (b : RoundLog) → y .rounds n ≡ running b → Covered b
+  -- every settled ticket's claim, with room for its line, is accepted and pays its full share, worked from history
+  pub settled-pays :
+    (k market : ℕ) (side : Side) (limit o : ℕ) (b : RoundLog) → Settled y k market side limit o b
+    → (member : ℕ) × (y .orders k ≡ standing member market side limit o)
+    × ((line room : ℕ) → length (answerLine line (Accepted (sharePaid o (P b side) (T b side)) (shareGot o (G b side) (T b side)))) ≤ room
+    → PaysOut x k (orderWith member market side limit o) (sharePaid o (P b side) (T b side)) (shareGot o (G b side) (T b side))
+      (f x (record { line = line; room = room; call = Call.Claim k })))
+  -- "The tray read off the house equals the sum of what rounds put there so", each fewer units of a token than it had tickets
+  pub residue-is : (t : ℕ) → t < 4 → residue x t ≡ sumOver (putBy t) (y .ended)
+  pub ended-well : All EndedWell (y .ended)
+  -- the limit rule
+  pub limits : All LimitKept (y .payouts)
+
+-- the statement, of any engine
+abbrev pub WholeRunOf : Engine → Type 0
+WholeRunOf f = (qs : List Request) → Whole f (stateAfter f freshExchange qs) (historyOf (eventsOf f freshExchange qs))
+
+-- the statement, of the model's requests
+abbrev pub WholeRun : Type 0
+WholeRun = WholeRunOf requestOf
