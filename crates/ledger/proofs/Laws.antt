@@ -12,12 +12,12 @@ use borrow.Author.Tests.{lt-ltb, le-ltb}
 use Rattle.units.specs.declared.Amount.{Amount}
 use Rattle.units.specs.Counts.{amount, largest}
 use Rattle.units.specs.Decide.{Test, when, decide}
-use Rattle.units.specs.Sums.{sumTo, only}
+use Rattle.units.specs.Sums.{only}
 use Rattle.units.proofs.Sums.{sum-zero, sum-at, term-le, only-add, only-same, only-other}
 use Rattle.ledger.specs.declared.Row.{Row}
 use Rattle.ledger.specs.declared.Ledger.{Ledger}
 use Rattle.ledger.specs.declared.Fault.{Fault}
-use Rattle.ledger.specs.declared.Fault.the-variants.{NoSuchMember, NoSuchToken, TooLarge, TooSmall}
+use Rattle.ledger.specs.declared.Fault.the-variants.{NoSuchToken, TooLarge, TooSmall}
 use Rattle.ledger.specs.declared.Entry.the-variants.{Done}
 use Rattle.ledger.specs.declared.Posting.{Posting}
 use Rattle.ledger.specs.declared.RowPosting.{RowPosting}

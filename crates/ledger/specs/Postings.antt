@@ -16,7 +16,8 @@ use Rattle.ledger.specs.Balances.{cellOf, creditedRow, debitedRow, balan
 
 -- ---- the numbers of an answer
 
--- document 01's refusals: 1 member above 15, 2 token above 3, 14 too large, 19 balance below the amount
+-- document 01's refusals: 1 member above 15, 2 token above 3, 19 balance below the amount; and 14, which under the rounds speaks of a token's
+-- supply, for a balance that would pass 4,294,967,295
 abbrev pub faultCode : Fault → ℕ
 faultCode NoSuchMember = 1
 faultCode NoSuchToken = 2

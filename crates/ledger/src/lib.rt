@@ -150,8 +150,8 @@ pub fn debit_row(row: Row, token: u32, n: Amount) -> RowPosting
         };
     }
     let t = token as usize;
-    let mut next = row;
-    let cell = next.cells[t];
+    let mut left = row;
+    let cell = left.cells[t];
     let had = cell.0;
     let less = n.0;
     if had < less {
@@ -160,11 +160,11 @@ pub fn debit_row(row: Row, token: u32, n: Amount) -> RowPosting
             row,
         };
     }
-    let new = Amount(had - less);
-    next.cells[t] = new;
+    let rest = Amount(had - less);
+    left.cells[t] = rest;
     RowPosting {
-        entry: Entry::Done(new),
-        row: next,
+        entry: Entry::Done(rest),
+        row: left,
     }
 }
 
@@ -212,9 +212,9 @@ pub fn debit(l: Ledger, member: u32, token: u32, n: Amount) -> Posting
     }
     let p = debit_row(row_of(l, member), token, n);
     let entry = p.entry;
-    let row = p.row;
+    let left = p.row;
     Posting {
         entry,
-        ledger: with_row(l, member, row),
+        ledger: with_row(l, member, left),
     }
 }

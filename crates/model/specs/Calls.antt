@@ -1,5 +1,6 @@
 -- The ten calls. Each has its tests, "in rising number the conditions that name it, and those of 1 to 5 whose field it has", and then what
--- an accepted call answers and leaves. A test compares sums, so that it means what it says for every number.
+-- an accepted call answers and leaves. A test compares sums, so that it means what it says for every number. The differences that an accepted
+-- call works out are exact in every state that calls can leave (specs/Bounds.antt).
 use Prim.Native.Nat.{ℕ, _+_, _-_}
 use mathlib.Core.Bool.{Bool, not, cond, _||_, _&&_}
 use mathlib.Core.List.{List, [], _∷_}
@@ -20,10 +21,11 @@ use Rattle.model.specs.declared.state.Phase.{Phase}
 use Rattle.model.specs.declared.state.Phase.the-variants.{Closed, Collect, Auction, Paying}
 use Rattle.model.specs.declared.state.Exchange.{Exchange}
 use Rattle.model.specs.declared.answer.Refusal.{Refusal}
-use Rattle.model.specs.declared.answer.Refusal.the-variants.{NoSuchMember, NoSuchToken, NoSuchMarket, NoSuchTicket, NoSuchSide, BadAmount, TicketInUse, NotYourTicket, WrongTicketState, BadTerms, WrongPhase, StaleBlock, TooEarly, SupplyExceeded, LimitOutOfBounds, AuctionOver, NotAvailable, BoundMissed, InsufficientBalance}
+use Rattle.model.specs.declared.answer.Refusal.the-variants.{NoSuchMember, NoSuchToken, NoSuchMarket, NoSuchTicket, NoSuchSide, BadAmountOrLimit, TicketInUse, NoSuchOrder, WrongTicketState, BadTerms, WrongPhase, StaleBlock, TooEarly, SupplyExceeded, LimitOutOfBounds, AuctionOver, NotAvailable, BoundMissed, InsufficientBalance}
 use Rattle.model.specs.declared.answer.Answer.the-variants.{Accepted, Refused}
 use Rattle.model.specs.declared.answer.Outcome.{Outcome}
-use Rattle.model.specs.State.{balance, supply, lastBlock, sideOf, bySide, offered, wanted, ticket, orderIn, isFree, isEntered, restingOr}
+use Rattle.model.specs.Sides.{sideOf, bySide, offered, wanted}
+use Rattle.model.specs.State.{balance, supply, lastBlock, ticket, orderIn, isFree, isEntered, restingOr}
 use Rattle.model.specs.State.{phase, noTotals, roundIn, isClosed, isCollect, isAuction, isPaying, totalsOf}
 use Rattle.model.specs.State.{withSupply, withTicket, withPhase, withBlock, credit, debit, toResidue}
 
@@ -49,9 +51,9 @@ outside a from to = below a from || above a to
 
 abbrev pub depositTests : Exchange → ℕ → ℕ → ℕ → List (Test Refusal)
 depositTests x member token n =
-      when (above member 15) NoSuchMember
+    when (above member 15) NoSuchMember
     ∷ when (above token 3) NoSuchToken
-    ∷ when (eqb n 0) BadAmount
+    ∷ when (eqb n 0) BadAmountOrLimit
     ∷ when (above (supply x token + n) largest) SupplyExceeded
     ∷ []
 
@@ -68,9 +70,9 @@ depositOf x member token n = decide (depositTests x member token n) (refuse x) (
 
 abbrev pub withdrawTests : Exchange → ℕ → ℕ → ℕ → List (Test Refusal)
 withdrawTests x member token n =
-      when (above member 15) NoSuchMember
+    when (above member 15) NoSuchMember
     ∷ when (above token 3) NoSuchToken
-    ∷ when (eqb n 0) BadAmount
+    ∷ when (eqb n 0) BadAmountOrLimit
     ∷ when (below (balance x member token) n) InsufficientBalance
     ∷ []
 
@@ -86,11 +88,11 @@ withdrawOf x member token n = decide (withdrawTests x member token n) (refuse x)
 
 abbrev pub orderTests : Exchange → ℕ → ℕ → ℕ → ℕ → ℕ → ℕ → List (Test Refusal)
 orderTests x k member market side limit n =
-      when (above member 15) NoSuchMember
+    when (above member 15) NoSuchMember
     ∷ when (outside market 1 3) NoSuchMarket
     ∷ when (above k 63) NoSuchTicket
     ∷ when (above side 1) NoSuchSide
-    ∷ when (eqb n 0 || outside limit 1 2000000000) BadAmount
+    ∷ when (eqb n 0 || outside limit 1 2000000000) BadAmountOrLimit
     ∷ when (not (isFree (ticket x k))) TicketInUse
     ∷ when (below (balance x member (offered (sideOf side) market)) n) InsufficientBalance
     ∷ []
@@ -111,9 +113,9 @@ orderOf x k member market side limit n =
 abbrev pub cancelTests : Exchange → ℕ → ℕ → List (Test Refusal)
 cancelTests x k member =
     let t = ticket x k in
-      when (above member 15) NoSuchMember
+    when (above member 15) NoSuchMember
     ∷ when (above k 63) NoSuchTicket
-    ∷ when (isFree t || not (eqb (orderIn t .member) member)) NotYourTicket
+    ∷ when (isFree t || not (eqb (orderIn t .member) member)) NoSuchOrder
     ∷ when (isEntered t) WrongTicketState
     ∷ []
 
@@ -133,7 +135,7 @@ cancelOf x k member = decide (cancelTests x k member) (refuse x) (cancelDone x k
 
 abbrev pub openTests : Exchange → ℕ → ℕ → ℕ → ℕ → ℕ → List (Test Refusal)
 openTests x market at r w len =
-      when (outside market 1 3) NoSuchMarket
+    when (outside market 1 3) NoSuchMarket
     ∷ when (outside r 1 1000000000 || (above w 500000 || outside len 1 64)) BadTerms
     ∷ when (not (isClosed (phase x market))) WrongPhase
     ∷ when (below at (lastBlock x)) StaleBlock
@@ -152,7 +154,7 @@ openedRound at r w len =
       buys = noTotals;
       sells = noTotals;
       quote = amount 0;
-      base = amount 0
+      base = amount 0;
     }
 
 -- "Phase collect. Answers hi, lo"
@@ -172,8 +174,8 @@ enterTests x k =
     let o = orderIn t in
     let p = phase x (o .market) in
     let r = roundIn p in
-      when (above k 63) NoSuchTicket
-    ∷ when (isFree t) NotYourTicket
+    when (above k 63) NoSuchTicket
+    ∷ when (isFree t) NoSuchOrder
     ∷ when (isEntered t) WrongTicketState
     ∷ when (not (isCollect p)) WrongPhase
     ∷ when (offLimit (o .side) (o .limit .0) (r .hi .0) (r .lo .0)) LimitOutOfBounds
@@ -196,7 +198,7 @@ enteredRound r k side n =
       buys = bySide side (plusTotal (r .buys) n) (r .buys);
       sells = bySide side (r .sells) (plusTotal (r .sells) n);
       quote = amount (r .quote .0 + bySide side n 0);
-      base = amount (r .base .0 + bySide side 0 n)
+      base = amount (r .base .0 + bySide side 0 n);
     }
 
 -- ticket k with order o enters round r: "Answers that side's total, 0"
@@ -217,7 +219,7 @@ enterOf x k = decide (enterTests x k) (refuse x) (enterDone x k)
 abbrev pub matchTests : Exchange → ℕ → ℕ → List (Test Refusal)
 matchTests x market at =
     let p = phase x market in
-      when (outside market 1 3) NoSuchMarket
+    when (outside market 1 3) NoSuchMarket
     ∷ when (not (isCollect p)) WrongPhase
     ∷ when (below at (lastBlock x)) StaleBlock
     ∷ when (below at (roundIn p .opened .0 + 4)) TooEarly
@@ -237,7 +239,7 @@ matchedRound r at t =
       buys = record { total = r .buys .total; paid = t .quote; got = t .base };
       sells = record { total = r .sells .total; paid = t .base; got = t .quote };
       quote = r .quote;
-      base = r .base
+      base = r .base;
     }
 
 -- what round r's two sides trade
@@ -287,10 +289,10 @@ bidTests x market member at side n bound =
     let r = roundIn p in
     let s = sideOf side in
     let q = bidQuote r s at n in
-      when (above member 15) NoSuchMember
+    when (above member 15) NoSuchMember
     ∷ when (outside market 1 3) NoSuchMarket
     ∷ when (above side 1) NoSuchSide
-    ∷ when (eqb n 0) BadAmount
+    ∷ when (eqb n 0) BadAmountOrLimit
     ∷ when (not (isAuction p)) WrongPhase
     ∷ when (below at (lastBlock x)) StaleBlock
     ∷ when (above at (r .start .0 + r .length)) AuctionOver
@@ -316,7 +318,7 @@ bidRound r side n q =
       buys = bySide side (plusTrade (r .buys) q n) (r .buys);
       sells = bySide side (r .sells) (plusTrade (r .sells) n q);
       quote = amount (bySide side (r .quote .0 - q) (r .quote .0 + q));
-      base = amount (bySide side (r .base .0 + n) (r .base .0 - n))
+      base = amount (bySide side (r .base .0 + n) (r .base .0 - n));
     }
 
 -- the maker gives and takes, and side s of round r trades n for q: "Answers n, quote"
@@ -342,18 +344,18 @@ bidOf x market member at side n bound =
 -- ---- 9 Settle: market, block
 
 -- a side has something left
-abbrev pub isLeft : Totals → Bool
-isLeft t = below (t .paid .0) (t .total .0)
+abbrev pub unfilled : Totals → Bool
+unfilled t = below (t .paid .0) (t .total .0)
 
 -- 13: "something left and k ≤ L"
 abbrev pub settleTests : Exchange → ℕ → ℕ → List (Test Refusal)
 settleTests x market at =
     let p = phase x market in
     let r = roundIn p in
-      when (outside market 1 3) NoSuchMarket
+    when (outside market 1 3) NoSuchMarket
     ∷ when (not (isAuction p)) WrongPhase
     ∷ when (below at (lastBlock x)) StaleBlock
-    ∷ when ((isLeft (r .buys) || isLeft (r .sells)) && not (above at (r .start .0 + r .length))) TooEarly
+    ∷ when ((unfilled (r .buys) || unfilled (r .sells)) && not (above at (r .start .0 + r .length))) TooEarly
     ∷ []
 
 -- "Phase paying; closed at once if no bit is set"
@@ -377,8 +379,8 @@ settleOf x market at = decide (settleTests x market at) (refuse x) (settleDone x
 abbrev pub claimTests : Exchange → ℕ → List (Test Refusal)
 claimTests x k =
     let t = ticket x k in
-      when (above k 63) NoSuchTicket
-    ∷ when (isFree t) NotYourTicket
+    when (above k 63) NoSuchTicket
+    ∷ when (isFree t) NoSuchOrder
     ∷ when (not (isEntered t)) WrongTicketState
     ∷ when (not (isPaying (phase x (orderIn t .market)))) WrongPhase
     ∷ []
@@ -397,7 +399,7 @@ claimedRound r k side refund got =
       buys = r .buys;
       sells = r .sells;
       quote = amount (r .quote .0 - bySide side refund got);
-      base = amount (r .base .0 - bySide side got refund)
+      base = amount (r .base .0 - bySide side got refund);
     }
 
 -- "The last claim of a round moves what the round still holds into the tray and closes the market"

@@ -52,8 +52,8 @@ WindsUp =
     → (at : ℕ) → r .start .0 + r .length < at → lastBlock x ≤ at
     → (ks : List ℕ) → Names (r .tickets) ks → BackToClosed x market at ks
 
--- what start + L below 4,294,967,295 is for: there is such a block
-abbrev pub BlockThere : Type 0
-BlockThere =
-    (x : Exchange) (r : Round) → lastBlock x ≤ largest → r .start .0 + r .length < largest
-    → (at : ℕ) × (r .start .0 + r .length < at) × (lastBlock x ≤ at) × (at ≤ largest)
+-- and such calls are there, where start + L is below 4,294,967,295
+abbrev pub CanClose : Type 0
+CanClose =
+    (x : Exchange) → Reachable x → lastBlock x ≤ largest → (market : ℕ) (r : Round) → phase x market ≡ Auction r
+    → r .start .0 + r .length < largest → (at : ℕ) × (at ≤ largest) × (ks : List ℕ) × BackToClosed x market at ks

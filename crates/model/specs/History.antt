@@ -11,45 +11,45 @@ use Rattle.model.specs.declared.call.Call.{Call}
 use Rattle.model.specs.declared.call.Call.the-variants as Call
 use Rattle.model.specs.declared.answer.Answer.{Answer}
 use Rattle.model.specs.declared.answer.Answer.the-variants.{Accepted, Refused}
-use Rattle.model.specs.State.{sideOf}
+use Rattle.model.specs.Sides.{sideOf, other}
 use Rattle.model.specs.Run.{Event}
 
 -- ---- orders
 
 -- a ticket's order, with "its order's amount less the s of that order's earlier claims"
-pub data Standing : Type 0 where
-  no-order : Standing
-  standing : (member market : ℕ) (side : Side) (limit left : ℕ) → Standing
+pub data PlacedOrder : Type 0 where
+  no-order : PlacedOrder
+  placed : (member market : ℕ) (side : Side) (limit left : ℕ) → PlacedOrder
 
-abbrev pub marketIn : Standing → ℕ
+abbrev pub marketIn : PlacedOrder → ℕ
 marketIn no-order = 0
-marketIn (standing member market side limit left) = market
+marketIn (placed member market side limit left) = market
 
-abbrev pub standingOr : (member market : ℕ) (side : Side) (limit left : ℕ) → Standing
-standingOr member market side limit zero = no-order
-standingOr member market side limit (suc n) = standing member market side limit (suc n)
+abbrev pub placedOr : (member market : ℕ) (side : Side) (limit left : ℕ) → PlacedOrder
+placedOr member market side limit zero = no-order
+placedOr member market side limit (suc n) = placed member market side limit (suc n)
 
 -- after a claim that pays s: nothing stands where nothing is left
-abbrev pub lessPaid : Standing → ℕ → Standing
+abbrev pub lessPaid : PlacedOrder → ℕ → PlacedOrder
 lessPaid no-order s = no-order
-lessPaid (standing member market side limit left) s = standingOr member market side limit (left - s)
+lessPaid (placed member market side limit left) s = placedOr member market side limit (left - s)
 
 -- ---- rounds
 
--- a ticket's part in a round: it waits with the offer o that its enter put in, and is then claimed, paying s and getting got
+-- a ticket's part in a round: it waits with the order and the offer o that its enter put in, and is then claimed, paying s and getting got
 pub data Part : Type 0 where
   absent : Part
-  waiting : (side : Side) (limit o : ℕ) → Part
-  claimed : (side : Side) (limit o s got : ℕ) → Part
+  waiting : (member : ℕ) (side : Side) (limit o : ℕ) → Part
+  claimed : (member : ℕ) (side : Side) (limit o s got : ℕ) → Part
 
-abbrev pub partOf : Standing → Part
+abbrev pub partOf : PlacedOrder → Part
 partOf no-order = absent
-partOf (standing member market side limit left) = waiting side limit left
+partOf (placed member market side limit left) = waiting member side limit left
 
 abbrev pub claimedAs : Part → ℕ → ℕ → Part
 claimedAs absent s got = absent
-claimedAs (waiting side limit o) s got = claimed side limit o s got
-claimedAs (claimed side limit o s′ got′) s got = claimed side limit o s′ got′
+claimedAs (waiting member side limit o) s got = claimed member side limit o s got
+claimedAs (claimed member side limit o s′ got′) s got = claimed member side limit o s′ got′
 
 -- until its match, until its settle, and until it ends
 pub data Stage : Type 0 where
@@ -66,10 +66,6 @@ pub record RoundLog : Type 0 where
   pub base1 : ℕ
   pub quote1 : ℕ
 
-abbrev pub other : Side → Side
-other Buy = Sell
-other Sell = Buy
-
 -- n where the two sides are the same
 abbrev pub whenSame : Side → Side → ℕ → ℕ
 whenSame Buy Buy n = n
@@ -79,13 +75,13 @@ whenSame Sell Sell n = n
 
 -- the o of a ticket on a side
 abbrev pub offerOn : Side → Part → ℕ
-offerOn x absent = 0
-offerOn x (waiting side limit o) = whenSame x side o
-offerOn x (claimed side limit o s got) = whenSame x side o
+offerOn a absent = 0
+offerOn a (waiting member side limit o) = whenSame a side o
+offerOn a (claimed member side limit o s got) = whenSame a side o
 
 -- "T is the sum of o on a side"
 unfoldable pub T : RoundLog → Side → ℕ
-T b x = sumTo 64 (λ k. offerOn x (b .part k))
+T b side = sumTo 64 (λ k. offerOn side (b .part k))
 
 -- what the match moved of the token that a side offers: c of quote, m of base
 abbrev pub traded : RoundLog → Side → ℕ
@@ -103,39 +99,39 @@ given b Sell = b .base0
 
 -- "for buys, P is c plus the quote of the side 0 bids"; "For sells, P is m plus the n of the side 1 bids"
 unfoldable pub P : RoundLog → Side → ℕ
-P b x = traded b x + taken b x
+P b side = traded b side + taken b side
 
 -- for buys "G is m plus their n"; for sells "G is c plus their quote"
 unfoldable pub G : RoundLog → Side → ℕ
-G b x = traded b (other x) + given b (other x)
+G b side = traded b (other side) + given b (other side)
 
--- what a ticket's claim moved out of the token that side x offers: o - s where it is on that side, got where it is on the other
+-- what a ticket's claim moved out of the token that side a offers: o - s where it is on that side, got where it is on the other
 abbrev pub movedOut : Side → Part → ℕ
-movedOut x absent = 0
-movedOut x (waiting side limit o) = 0
-movedOut x (claimed side limit o s got) = whenSame x side (o - s) + whenSame (other x) side got
+movedOut a absent = 0
+movedOut a (waiting member side limit o) = 0
+movedOut a (claimed member side limit o s got) = whenSame a side (o - s) + whenSame (other a) side got
 
 -- "A round holds the buys' T and the quote of side 1 bids, less the quote of side 0 bids; and the sells' T and the n of side 0 bids, less the
 -- n of side 1 bids; all less each claim's o - s and got, each in its token"
 unfoldable pub cameIn : RoundLog → Side → ℕ
-cameIn b x = T b x + given b x
+cameIn b side = T b side + given b side
 
 unfoldable pub wentOut : RoundLog → Side → ℕ
-wentOut b x = taken b x + sumTo 64 (λ k. movedOut x (b .part k))
+wentOut b side = taken b side + sumTo 64 (λ k. movedOut side (b .part k))
 
 unfoldable pub holds : RoundLog → Side → ℕ
-holds b x = cameIn b x - wentOut b x
+holds b side = cameIn b side - wentOut b side
 
 -- how many tickets a round has, and how many of them wait for their claim
 abbrev pub isTicket : Part → ℕ
 isTicket absent = 0
-isTicket (waiting side limit o) = 1
-isTicket (claimed side limit o s got) = 1
+isTicket (waiting member side limit o) = 1
+isTicket (claimed member side limit o s got) = 1
 
 abbrev pub isWaiting : Part → ℕ
 isWaiting absent = 0
-isWaiting (waiting side limit o) = 1
-isWaiting (claimed side limit o s got) = 0
+isWaiting (waiting member side limit o) = 1
+isWaiting (claimed member side limit o s got) = 0
 
 unfoldable pub ticketCount : RoundLog → ℕ
 ticketCount b = sumTo 64 (λ k. isTicket (b .part k))
@@ -166,7 +162,7 @@ pub record EndedRound : Type 0 where
 pub record History : Type 0 where
   pub deposited : ℕ → ℕ
   pub withdrawn : ℕ → ℕ
-  pub orders : ℕ → Standing
+  pub orders : ℕ → PlacedOrder
   pub rounds : ℕ → Current
   pub ended : List EndedRound
   pub payouts : List Payout
@@ -179,9 +175,9 @@ abbrev pub emptyLog : RoundLog
 emptyLog =
     record { stage = collecting; part = λ k. absent; m = 0; c = 0; base0 = 0; quote0 = 0; base1 = 0; quote1 = 0 }
 
-abbrev pub logIn : Current → RoundLog
-logIn idle = emptyLog
-logIn (running b) = b
+abbrev pub logOf : Current → RoundLog
+logOf idle = emptyLog
+logOf (running b) = b
 
 abbrev pub withPart : RoundLog → ℕ → Part → RoundLog
 withPart b k p =
@@ -205,7 +201,7 @@ abbrev pub noHistory : History
 noHistory =
     record { deposited = λ t. 0; withdrawn = λ t. 0; orders = λ k. no-order; rounds = λ n. idle; ended = []; payouts = [] }
 
-abbrev pub withOrder : History → ℕ → Standing → History
+abbrev pub withOrder : History → ℕ → PlacedOrder → History
 withOrder y k o =
     record { deposited = y .deposited; withdrawn = y .withdrawn; orders = put (y .orders) k o; rounds = y .rounds; ended = y .ended; payouts = y .payouts }
 
@@ -226,20 +222,20 @@ withEnd y n b =
       orders = y .orders;
       rounds = put (y .rounds) n idle;
       ended = record { market = n; log = b } ∷ y .ended;
-      payouts = y .payouts
+      payouts = y .payouts;
     }
 
 -- "It ends with a settle without tickets or with its tickets' last claim": the round ends where no ticket of it is left to claim
 abbrev pub endOrRound : History → ℕ → RoundLog → History
 endOrRound y n b = cond (eqb (waitingCount b) 0) (withEnd y n b) (withRound y n (running b))
 
-abbrev pub sideIn : Standing → Side
+abbrev pub sideIn : PlacedOrder → Side
 sideIn no-order = Buy
-sideIn (standing member market side limit left) = side
+sideIn (placed member market side limit left) = side
 
-abbrev pub limitIn : Standing → ℕ
+abbrev pub limitIn : PlacedOrder → ℕ
 limitIn no-order = 0
-limitIn (standing member market side limit left) = limit
+limitIn (placed member market side limit left) = limit
 
 abbrev pub sameStage : Stage → Stage → Bool
 sameStage collecting collecting = true
@@ -252,6 +248,11 @@ sameStage settled collecting = false
 sameStage settled auctioning = false
 sameStage settled settled = true
 
+-- "A round begins with an open", where none runs
+abbrev pub openedOn : Current → Current
+openedOn idle = running emptyLog
+openedOn (running b) = running b
+
 -- a market's round changed, where it has one at this stage
 abbrev pub changedAt : Stage → (RoundLog → RoundLog) → Current → Current
 changedAt g f idle = idle
@@ -263,11 +264,11 @@ endedAt g f y n idle = y
 endedAt g f y n (running b) = cond (sameStage g (b .stage)) (endOrRound y n (f b)) y
 
 -- an enter of ticket k with the order o: "Its tickets are those of that market entered until its match"
-abbrev pub withEnter : History → ℕ → Standing → History
+abbrev pub withEnter : History → ℕ → PlacedOrder → History
 withEnter y k o = withRound y (marketIn o) (changedAt collecting (λ b. withPart b k (partOf o)) (y .rounds (marketIn o)))
 
 -- a claim of ticket k with the order o: "paying it out leaves o - s with the ticket", and its part is claimed
-abbrev pub withClaim : History → ℕ → Standing → ℕ → ℕ → History
+abbrev pub withClaim : History → ℕ → PlacedOrder → ℕ → ℕ → History
 withClaim y k o s got =
     endedAt settled (λ b. withPart b k (claimedAs (b .part k) s got))
     (withOrder (withPayout y (record { side = sideIn o; limit = limitIn o; s = s; got = got })) k (lessPaid o s))
@@ -283,7 +284,7 @@ withAccepted y (Call.Deposit member token n) a b =
       orders = y .orders;
       rounds = y .rounds;
       ended = y .ended;
-      payouts = y .payouts
+      payouts = y .payouts;
     }
 withAccepted y (Call.Withdraw member token n) a b =
     record {
@@ -292,11 +293,11 @@ withAccepted y (Call.Withdraw member token n) a b =
       orders = y .orders;
       rounds = y .rounds;
       ended = y .ended;
-      payouts = y .payouts
+      payouts = y .payouts;
     }
-withAccepted y (Call.Order k member market side limit n) a b = withOrder y k (standing member market (sideOf side) limit n)
+withAccepted y (Call.Order k member market side limit n) a b = withOrder y k (placed member market (sideOf side) limit n)
 withAccepted y (Call.Cancel k member) a b = withOrder y k no-order
-withAccepted y (Call.Open market at r w len) hi lo = withRound y market (running emptyLog)
+withAccepted y (Call.Open market at r w len) hi lo = withRound y market (openedOn (y .rounds market))
 withAccepted y (Call.Enter k) a b = withEnter y k (y .orders k)
 withAccepted y (Call.Match market at) m c = withRound y market (changedAt collecting (λ b. withMatch b m c) (y .rounds market))
 withAccepted y (Call.Bid market member at side n bound) n′ q = withRound y market (changedAt auctioning (λ b. withBid b (sideOf side) n q) (y .rounds market))

@@ -1,3 +1,4 @@
+pub mod Sides
 pub mod State
 pub mod Answers
 pub mod Calls

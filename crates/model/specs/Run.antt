@@ -60,7 +60,8 @@ unfoldable pub stateAfter : Engine → Exchange → List Request → Exchange
 stateAfter f x [] = x
 stateAfter f x (q ∷ qs) = stateAfter f (f x q .exchange) qs
 
--- a state that calls can leave: "A host gets a house only as the fresh one or from a call"
+-- a state that calls can leave: "A host gets a house only as the fresh one or from a call". Fields are any numbers here; that a block
+-- fits 32 bits is what its type says in a contract.
 pub data Reachable : Exchange → Type 0 where
   at-first : Reachable freshExchange
   after-call : {x : Exchange} → Reachable x → (c : Call) → Reachable (stepOf x c .exchange)

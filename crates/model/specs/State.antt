@@ -38,26 +38,6 @@ residue x t = getD (x .residue) t (amount 0) .0
 abbrev pub lastBlock : Exchange → ℕ
 lastBlock x = x .last .0
 
--- ---- sides: "0 buy, offers quote; 1 sell, offers base". Token 0 is the quote, and market n's base is token n
-
-abbrev pub sideOf : ℕ → Side
-sideOf zero = Buy
-sideOf (suc n) = Sell
-
--- the first for buys, the second for sells
-abbrev pub bySide {ℓ} : {A : Type ℓ} → Side → A → A → A
-bySide Buy a b = a
-bySide Sell a b = b
-
--- the token that a side offers, and the one that it gets
-abbrev pub offered : Side → ℕ → ℕ
-offered Buy market = 0
-offered Sell market = market
-
-abbrev pub wanted : Side → ℕ → ℕ
-wanted Buy market = market
-wanted Sell market = 0
-
 -- ---- tickets
 
 abbrev pub blankOrder : Order
@@ -124,7 +104,7 @@ blankRound =
       buys = noTotals;
       sells = noTotals;
       quote = amount 0;
-      base = amount 0
+      base = amount 0;
     }
 
 -- the round of a market that is not closed
@@ -210,5 +190,5 @@ freshExchange =
       residue = replicate 4 (amount 0);
       tickets = replicate 64 freeTicket;
       markets = replicate 3 closedMarket;
-      last = block 0
+      last = block 0;
     }

@@ -1,6 +1,7 @@
 -- Demand 3: one statement about every list of requests from the fresh state, of any engine. It uses of the engine only the answers that it gave
--- and what document 01 lets be read off the state: balances, resting offers, the residue, and the supply that refusal 14 looks at.
--- An engine that refuses every call meets it; that calls are accepted is what the calls' own definitions say.
+-- and what is read off the state: balances, resting offers and the residue, as document 01 has it; beside them the supply that refusal 14
+-- looks at, and for a claim the tickets before and after it.
+-- An engine that refuses every call meets it: that calls are accepted when they should be is what the calls' own definitions say.
 use Prim.Native.Nat.{ℕ, suc, _+_, _-_, _≤_, _<_}
 use mathlib.Core.Path.{_≡_}
 use mathlib.Core.List.{List, [], _∷_}
@@ -19,10 +20,11 @@ use Rattle.model.specs.declared.state.Exchange.{Exchange}
 use Rattle.model.specs.declared.call.Call.the-variants as Call
 use Rattle.model.specs.declared.answer.Answer.the-variants.{Accepted}
 use Rattle.model.specs.declared.answer.Outcome.{Outcome}
-use Rattle.model.specs.State.{balance, supply, residue, ticket, freeTicket, offered, wanted, restingOr, freshExchange}
+use Rattle.model.specs.Sides.{offered, wanted}
+use Rattle.model.specs.State.{balance, supply, residue, ticket, freeTicket, restingOr, freshExchange}
 use Rattle.model.specs.Answers.{answerLine}
 use Rattle.model.specs.Run.{Request, Engine, requestOf, eventsOf, stateAfter}
-use Rattle.model.specs.History.{Standing, standing, Part, waiting, Stage, settled, RoundLog, Current, idle, running, T, P, G, cameIn, wentOut, holds, ticketCount, Payout, EndedRound, History, historyOf}
+use Rattle.model.specs.History.{PlacedOrder, placed, Part, waiting, Stage, settled, RoundLog, Current, idle, running, T, P, G, cameIn, wentOut, holds, ticketCount, Payout, EndedRound, History, historyOf}
 
 -- ---- read off the state
 
@@ -76,7 +78,7 @@ pub record LimitKept (p : Payout) : Type 0 where
 
 -- a round never pays out more than came in
 pub record Covered (b : RoundLog) : Type 0 where
-  pub covered : (x : Side) → wentOut b x ≤ cameIn b x
+  pub covered : (side : Side) → wentOut b side ≤ cameIn b side
 
 -- a round that ended leaves fewer units of each token than it had tickets, and nothing where it had none
 pub record EndedWell (e : EndedRound) : Type 0 where
@@ -85,13 +87,13 @@ pub record EndedWell (e : EndedRound) : Type 0 where
   pub nothing-put : ticketCount (e .log) ≡ 0 → (t : ℕ) → putBy t e ≡ 0
 
 -- "A ticket is settled from its round's settle until its own claim"
-pub record Settled (y : History) (k market : ℕ) (side : Side) (limit o : ℕ) (b : RoundLog) : Type 0 where
+pub record SettledTicket (y : History) (k member market : ℕ) (side : Side) (limit o : ℕ) (b : RoundLog) : Type 0 where
   pub ticket-range : k < 64
   pub market-low : 0 < market
   pub market-high : market < 4
   pub round : y .rounds market ≡ running b
   pub stage : b .stage ≡ settled
-  pub part : b .part k ≡ waiting side limit o
+  pub part : b .part k ≡ waiting member side limit o
 
 abbrev pub orderWith : (member market : ℕ) (side : Side) (limit o : ℕ) → Order
 orderWith member market side limit o = record { member = member; market = market; side = side; limit = price limit; offer = amount o }
@@ -117,10 +119,10 @@ pub record Whole (f : Engine) (x : Exchange) (y : History) : Type 0 where
   pub solvent : (n : ℕ) → 0 < n → n < 4 → (b : RoundLog) → y .rounds n ≡ running b → Covered b
   -- every settled ticket's claim, with room for its line, is accepted and pays its full share, worked from history
   pub settled-pays :
-    (k market : ℕ) (side : Side) (limit o : ℕ) (b : RoundLog) → Settled y k market side limit o b
-    → (member : ℕ) × (y .orders k ≡ standing member market side limit o)
-    × ((line room : ℕ) → length (answerLine line (Accepted (sharePaid o (P b side) (T b side)) (shareGot o (G b side) (T b side)))) ≤ room
-    → PaysOut x k (orderWith member market side limit o) (sharePaid o (P b side) (T b side)) (shareGot o (G b side) (T b side))
+      (k member market : ℕ) (side : Side) (limit o : ℕ) (b : RoundLog) → SettledTicket y k member market side limit o b
+      → (y .orders k ≡ placed member market side limit o)
+      × ((line room : ℕ) → length (answerLine line (Accepted (sharePaid o (P b side) (T b side)) (shareGot o (G b side) (T b side)))) ≤ room
+      → PaysOut x k (orderWith member market side limit o) (sharePaid o (P b side) (T b side)) (shareGot o (G b side) (T b side))
       (f x (record { line = line; room = room; call = Call.Claim k })))
   -- "The tray read off the house equals the sum of what rounds put there so", each fewer units of a token than it had tickets
   pub residue-is : (t : ℕ) → t < 4 → residue x t ≡ sumOver (putBy t) (y .ended)

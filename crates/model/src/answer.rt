@@ -1,7 +1,6 @@
 // What a call answers: a code and two numbers.
 ghost use mathlib.Core.Path.{_≡_};
 ghost use Rattle.model.specs.Answers.{refusalCode, codeOf, firstOf, secondOf};
-
 use crate::state::Exchange;
 
 // Why a call is turned down: one case for each code from 1 to 21, in their order.
@@ -11,9 +10,9 @@ pub enum Refusal {
     NoSuchMarket,
     NoSuchTicket,
     NoSuchSide,
-    BadAmount,
+    BadAmountOrLimit,
     TicketInUse,
-    NotYourTicket,
+    NoSuchOrder,
     WrongTicketState,
     BadTerms,
     WrongPhase,
@@ -49,9 +48,9 @@ pub fn refusal_code(why: Refusal) -> u32
         Refusal::NoSuchMarket => 3,
         Refusal::NoSuchTicket => 4,
         Refusal::NoSuchSide => 5,
-        Refusal::BadAmount => 6,
+        Refusal::BadAmountOrLimit => 6,
         Refusal::TicketInUse => 7,
-        Refusal::NotYourTicket => 8,
+        Refusal::NoSuchOrder => 8,
         Refusal::WrongTicketState => 9,
         Refusal::BadTerms => 10,
         Refusal::WrongPhase => 11,

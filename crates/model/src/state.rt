@@ -1,7 +1,6 @@
 // The state of the exchange (document 01: the house).
 ghost use mathlib.Core.Path.{_≡_};
 ghost use Rattle.model.specs.State.{freshExchange};
-
 use ledger::Ledger;
 use pricing::Side;
 use pricing::Totals;
@@ -29,8 +28,8 @@ pub struct Ticket {
     pub state: TicketState,
 }
 
-// A round from its open on. reference, hi and lo are its prices, opened and start the blocks of its open and its match,
-// tickets the set of its tickets, quote and base what it holds.
+// A round from its open on. reference, hi and lo are its prices, length its auction's blocks, opened and start the blocks
+// of its open and its match (0 before it), tickets the set of its tickets, quote and base what it holds.
 pub struct Round {
     pub reference: Price,
     pub hi: Price,

@@ -3,7 +3,7 @@ use mathlib.Core.Path.{_≡_, refl, sym, ap, _∙_}
 use Prim.Native.Nat.{ℕ, zero, suc, _+_, _-_, _*_, _/_, _%_, _^_, _≤_, _<_}
 use native.Mathlib.Nat.{div-add-mod, mod-lt, lt-of-mul-lt-mul-left, le-of-mul-le-mul-left, mul-le-mul-left, mul-le-mul, le-antisymm}
 use native.Mathlib.Omega.{arith}
-use Rattle.units.specs.Rounding.{down, up, RoundedDown, RoundedUp}
+use Rattle.units.specs.Rounding.{down, up, RoundedDown, RoundedUp, RoundsDown, RoundsUp}
 
 -- ---- the two bounds of each, in products
 
@@ -48,6 +48,12 @@ up-is a b h = record { reaches = up-low a b h; least = λ d l. up-le a b d h l }
 
 pub up-only : (a b c : ℕ) → 0 < b → RoundedUp a b c → c ≡ up a b
 up-only a b c h r = le-antisymm (r .least (up a b) (up-low a b h)) (up-le a b c h (r .reaches))
+
+pub rounds-down : RoundsDown
+rounds-down a b h = (down-is a b h, λ c r. down-only a b c h r)
+
+pub rounds-up : RoundsUp
+rounds-up a b h = (up-is a b h, λ c r. up-only a b c h r)
 
 -- ---- order
 

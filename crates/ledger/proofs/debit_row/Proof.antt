@@ -20,11 +20,11 @@ returns-2 : tie.Need-returns-2
 unfolding debitRowOf debitedRow withCell cellOf
 returns-2 c = search tests
 
-mul-new : tie.Need-mul-new
-mul-new c = search needs
+mul-rest : tie.Need-mul-rest
+mul-rest c = search needs
 
-element-set-from-new : tie.Need-element-set-from-new
-element-set-from-new c = search needs
+element-set-from-rest : tie.Need-element-set-from-rest
+element-set-from-rest c = search needs
 
 returns-3 : tie.Need-returns-3
 unfolding debitRowOf debitedRow withCell cellOf
@@ -38,6 +38,6 @@ debit-row-spec =
     mul-cell
     element-copy-out-cell
     returns-2
-    mul-new
-    element-set-from-new
+    mul-rest
+    element-set-from-rest
     returns-3)

@@ -1,0 +1,119 @@
+-- What the invariant says of every ticket and market, after one ticket or one market changed.
+use Prim.Native.Nat.{_+_, _<_, _≤_, ℕ}
+use mathlib.Core.Bool.{false}
+use mathlib.Core.Path.{_∙_, _≡_, ap, refl, subst, sym}
+use native.Mathlib.Decide.{ℕ-discrete}
+use native.Mathlib.Omega.{arith}
+use lib.Dec.{ltb}
+use lib.ListN.{length}
+use borrow.Author.Tests.{ltb-false}
+use Rattle.model.specs.Calls.{outside}
+use Rattle.model.specs.History.{Current, Part, PlacedOrder, RoundLog, put, running, whenSame}
+use Rattle.model.specs.Sides.{offered, other, wanted}
+use Rattle.model.specs.State.{phase, ticket, withPhase, withTicket}
+use Rattle.model.specs.declared.state.Exchange.{Exchange}
+use Rattle.model.specs.declared.state.Phase.{Phase}
+use Rattle.model.specs.declared.state.TicketState.{TicketState}
+use Rattle.pricing.specs.declared.Side.{Side}
+use Rattle.pricing.specs.declared.Side.the-variants.{Buy, Sell}
+use Rattle.units.specs.Sums.{only}
+use Rattle.model.proofs.Inv.{MarketOk, TicketOk, atWork, partIn, placedOf, saysIn}
+use Rattle.model.proofs.Reading.{phase-other, phase-same, put-each, put-other, put-same, ticket-other, ticket-same}
+use Rattle.units.proofs.Decide.{or-false}
+use Rattle.units.proofs.Sums.{only-zero}
+
+-- a number that is not outside a range
+pub inside : (a from to : ℕ) → outside a from to ≡ false → (from ≤ a) × (a ≤ to)
+inside a from to e =
+    let p = or-false (ltb a from) (ltb to a) e in
+    (ltb-false a from (p .0), ltb-false to a (p .1))
+
+-- ---- tokens of a side
+
+pub offered-lt : (x : Side) (mk : ℕ) → mk < 4 → offered x mk < 4
+offered-lt Buy mk l = omega arith
+offered-lt Sell mk l = l
+
+pub wanted-lt : (x : Side) (mk : ℕ) → mk < 4 → wanted x mk < 4
+wanted-lt Buy mk l = l
+wanted-lt Sell mk l = omega arith
+
+-- n units of what side x offers, as quote and as base
+pub offered-split : (x : Side) (mk n u : ℕ) → only 0 (whenSame Buy x n) u + only mk (whenSame Sell x n) u ≡ only (offered x mk) n u
+offered-split Buy mk n u = omega (arith, only-zero mk u)
+offered-split Sell mk n u = omega (arith, only-zero 0 u)
+
+-- n units of what side x wants
+pub wanted-split : (x : Side) (mk n u : ℕ) → only 0 (whenSame Buy (other x) n) u + only mk (whenSame Sell (other x) n) u ≡ only (wanted x mk) n u
+wanted-split Buy mk n u = omega (arith, only-zero 0 u)
+wanted-split Sell mk n u = omega (arith, only-zero mk u)
+
+-- ---- one ticket changed
+
+module _ (g : Exchange) (k : ℕ) (s : TicketState) (hk : k < length (g .tickets)) where
+  -- a property of every ticket
+  pub each-ticket : (Q : ℕ → TicketState → Type 0) → Q k s → (j : ℕ) → ((j ≡ k → ⊥) → Q j (ticket g j)) → Q j (ticket (withTicket g k s) j)
+  each-ticket Q here j there = go (ℕ-discrete j k)
+    where
+      go : Dec (j ≡ k) → Q j (ticket (withTicket g k s) j)
+      go (yes e) = subst (λ (a : ℕ). Q a (ticket (withTicket g k s) a)) (sym e) (subst (Q k) (sym (ticket-same g k s hk)) here)
+      go (no d) = subst (Q j) (sym (ticket-other g k s j d)) (there d)
+
+  pub tickets-set : TicketOk s → ((j : ℕ) → j < 64 → TicketOk (ticket g j)) → (j : ℕ) → j < 64 → TicketOk (ticket (withTicket g k s) j)
+  tickets-set ok all j hj = each-ticket (λ a t. TicketOk t) ok j (λ d. all j hj)
+
+  pub orders-set : (f : ℕ → PlacedOrder) (v : PlacedOrder) → v ≡ placedOf s → ((j : ℕ) → j < 64 → f j ≡ placedOf (ticket g j))
+      → (j : ℕ) → j < 64 → put f k v j ≡ placedOf (ticket (withTicket g k s) j)
+  orders-set f v e all j hj =
+      put-each (λ a w. w ≡ placedOf (ticket (withTicket g k s) a)) f k v j
+      (λ q. e ∙ ap placedOf (sym (ticket-same g k s hk)))
+      (λ d. all j hj ∙ ap placedOf (sym (ticket-other g k s j d)))
+
+  -- a ticket that stays out of rounds leaves every place as it was
+  pub places-set : (f : ℕ → Current) → ((a : ℕ) → saysIn s a ≡ saysIn (ticket g k) a)
+      → ((j : ℕ) → j < 64 → (a : ℕ) → 0 < a → a < 4 → atWork (partIn (f a) j) ≡ saysIn (ticket g j) a)
+      → (j : ℕ) → j < 64 → (a : ℕ) → 0 < a → a < 4 → atWork (partIn (f a) j) ≡ saysIn (ticket (withTicket g k s) j) a
+  places-set f e all j hj a pa la =
+      all j hj a pa la ∙ sym (each-ticket (λ i t. saysIn t a ≡ saysIn (ticket g i) a) (e a) j (λ d. refl))
+
+  -- a ticket that goes in or out of market mk's round, whose part q says so, changes the places of that ticket in that round
+  pub places-part : (f : ℕ → Current) (mk : ℕ) (b : RoundLog) (q : Part) (c : Current) → f mk ≡ running b → 0 < mk → mk < 4
+      → ((j : ℕ) → j < 64 → atWork (partIn c j) ≡ atWork (put (b .part) k q j))
+      → atWork q ≡ saysIn s mk → ((a : ℕ) → (a ≡ mk → ⊥) → saysIn (ticket g k) a ≡ saysIn s a)
+      → ((j : ℕ) → j < 64 → (a : ℕ) → 0 < a → a < 4 → atWork (partIn (f a) j) ≡ saysIn (ticket g j) a)
+      → (j : ℕ) → j < 64 → (a : ℕ) → 0 < a → a < 4 → atWork (partIn (put f mk c a) j) ≡ saysIn (ticket (withTicket g k s) j) a
+  places-part f mk b q c er pm lm same here there all j hj a pa la =
+      put-each (λ i v. atWork (partIn v j) ≡ saysIn (ticket (withTicket g k s) j) i) f mk c a
+      (λ e. same j hj ∙ at-mk (ℕ-discrete j k))
+      (λ d. all j hj a pa la ∙ sym (each-ticket (λ i t. saysIn t a ≡ saysIn (ticket g i) a) (sym (there a d)) j (λ dj. refl)))
+    where
+      at-mk : Dec (j ≡ k) → atWork (put (b .part) k q j) ≡ saysIn (ticket (withTicket g k s) j) mk
+      at-mk (yes e) =
+          let z : atWork (put (b .part) k q k) ≡ saysIn (ticket (withTicket g k s) k) mk =
+          ap atWork (put-same (b .part) k q) ∙ here ∙ sym (ap (λ t. saysIn t mk) (ticket-same g k s hk)) in
+          subst (λ (i : ℕ). atWork (put (b .part) k q i) ≡ saysIn (ticket (withTicket g k s) i) mk) (sym e) z
+      at-mk (no d) =
+          ap atWork (put-other (b .part) k q j d)
+          ∙ ap (λ (v : Current). atWork (partIn v j)) (sym er)
+          ∙ all j hj mk pm lm
+          ∙ ap (λ t. saysIn t mk) (sym (ticket-other g k s j d))
+
+-- ---- one market changed
+
+module _ (g : Exchange) (mk : ℕ) (p : Phase) (f : ℕ → Current) (c : Current) (pos : 0 < mk) (lm : mk ≤ length (g .markets)) where
+  pub markets-set : MarketOk p c → ((a : ℕ) → 0 < a → a < 4 → MarketOk (phase g a) (f a))
+      → (a : ℕ) → 0 < a → a < 4 → MarketOk (phase (withPhase g mk p) a) (put f mk c a)
+  markets-set ok all a pa la =
+      put-each (λ i v. MarketOk (phase (withPhase g mk p) i) v) f mk c a
+      (λ e. subst (λ (q : Phase). MarketOk q c) (sym (phase-same g mk p pos lm)) ok)
+      (λ d. subst (λ (q : Phase). MarketOk q (f a)) (sym (phase-other g mk p a d)) (all a pa la))
+
+-- a round whose parts at work stay as they were leaves every place as it was
+pub places-round : (g : Exchange) (mk : ℕ) (f : ℕ → Current) (c : Current) → ((j : ℕ) → j < 64 → atWork (partIn c j) ≡ atWork (partIn (f mk) j))
+    → ((j : ℕ) → j < 64 → (a : ℕ) → 0 < a → a < 4 → atWork (partIn (f a) j) ≡ saysIn (ticket g j) a)
+    → (j : ℕ) → j < 64 → (a : ℕ) → 0 < a → a < 4 → atWork (partIn (put f mk c a) j) ≡ saysIn (ticket g j) a
+places-round g mk f c same all j hj a pa la =
+    put-each (λ i v. (0 < i) → (i < 4) → atWork (partIn v j) ≡ saysIn (ticket g j) i) f mk c a
+    (λ e p l. same j hj ∙ all j hj mk p l)
+    (λ d p l. all j hj a p l)
+    pa la

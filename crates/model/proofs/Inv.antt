@@ -1,0 +1,212 @@
+-- The invariant that relates a state with what history says.
+use Prim.Native.Nat.{_+_, _<_, _^_, _≤_, ℕ}
+use mathlib.Core.Bool.{cond, false, true}
+use mathlib.Core.Path.{_∙_, _≡_, ap, refl}
+use native.Mathlib.Omega.{arith}
+use lib.Dec.{eqb}
+use Rattle.model.specs.History.{Current, G, History, P, Part, PlacedOrder, RoundLog, Stage, T, absent, auctioning, cameIn, changedAt, claimed, collecting, endOrRound, endedAt, given, idle, isWaiting, logOf, no-order, placed, running, sameStage, settled, taken, traded, waiting, wentOut}
+use Rattle.model.specs.State.{isAuction, isClosed, isCollect, isEntered, isFree, isPaying, orderIn, phase, residue, roundIn, supply, ticket, totalsOf}
+use Rattle.model.specs.WholeRun.{All, EndedWell, LimitKept, balances, inRounds, putBy, resting}
+use Rattle.model.specs.declared.state.Exchange.{Exchange}
+use Rattle.model.specs.declared.state.Order.{Order}
+use Rattle.model.specs.declared.state.Phase.{Phase}
+use Rattle.model.specs.declared.state.Phase.the-variants.{Auction, Closed, Collect, Paying}
+use Rattle.model.specs.declared.state.Round.{Round}
+use Rattle.model.specs.declared.state.TicketState.{TicketState}
+use Rattle.model.specs.declared.state.TicketState.the-variants.{Entered, Free, Resting}
+use Rattle.pricing.specs.Prices.{offLimit, shareGot, sharePaid}
+use Rattle.pricing.specs.declared.Side.{Side}
+use Rattle.pricing.specs.declared.Side.the-variants.{Buy, Sell}
+use Rattle.ticket_set.specs.TicketSet.{bit}
+use Rattle.units.specs.Counts.{largest}
+use Rattle.units.specs.Sums.{sumOver}
+use Rattle.model.proofs.Reading.{Sized}
+use Rattle.pricing.proofs.Limits.{Rate}
+
+-- ---- tickets
+
+-- what history says of a ticket in this state
+abbrev pub placedOf : TicketState → PlacedOrder
+placedOf Free = no-order
+placedOf (Resting o) = placed (o .member) (o .market) (o .side) (o .limit .0) (o .offer .0)
+placedOf (Entered o) = placed (o .member) (o .market) (o .side) (o .limit .0) (o .offer .0)
+
+-- the part that a ticket in this state waits with in market n's round
+abbrev pub saysIn : TicketState → ℕ → Part
+saysIn Free n = absent
+saysIn (Resting o) n = absent
+saysIn (Entered o) n = cond (eqb n (o .market)) (waiting (o .member) (o .side) (o .limit .0) (o .offer .0)) absent
+
+-- a part that waits; one that was claimed is over
+abbrev pub atWork : Part → Part
+atWork absent = absent
+atWork (waiting member side limit o) = waiting member side limit o
+atWork (claimed member side limit o s got) = absent
+
+abbrev pub partIn : Current → ℕ → Part
+partIn idle k = absent
+partIn (running b) k = b .part k
+
+pub record OrderOk (o : Order) : Type 0 where
+  pub member : o .member < 16
+  pub market-low : 0 < o .market
+  pub market-high : o .market < 4
+  pub limit : 0 < o .limit .0
+  pub offer : 0 < o .offer .0
+
+abbrev pub TicketOk : TicketState → Type 0
+TicketOk Free = Unit {0}
+TicketOk (Resting o) = OrderOk o
+TicketOk (Entered o) = OrderOk o
+
+-- ---- rounds
+
+-- what a round holds of the token that a side offers
+abbrev pub heldIn : Round → Side → ℕ
+heldIn r Buy = r .quote .0
+heldIn r Sell = r .base .0
+
+-- a ticket that waits entered with a limit that the round's bound keeps
+pub record WaitingOk (hi lo : ℕ) (side : Side) (limit o : ℕ) : Type 0 where
+  pub limit-pos : 0 < limit
+  pub offer-pos : 0 < o
+  pub within : offLimit side limit hi lo ≡ false
+
+pub record ClaimedOk (b : RoundLog) (side : Side) (o s got : ℕ) : Type 0 where
+  pub offer-pos : 0 < o
+  pub s-is : s ≡ sharePaid o (P b side) (T b side)
+  pub got-is : got ≡ shareGot o (G b side) (T b side)
+
+-- claims come only once the round is settled
+abbrev pub ClaimsAt : Stage → Type 0
+ClaimsAt collecting = ⊥
+ClaimsAt auctioning = ⊥
+ClaimsAt settled = Unit {0}
+
+abbrev pub PartOk : Stage → (hi lo : ℕ) → RoundLog → Part → Type 0
+PartOk g hi lo b absent = Unit {0}
+PartOk g hi lo b (waiting member side limit o) = WaitingOk hi lo side limit o
+PartOk g hi lo b (claimed member side limit o s got) = ClaimsAt g × ClaimedOk b side o s got
+
+-- the prices and the length that a round was opened with
+pub record TermsOk (reference hi lo len : ℕ) : Type 0 where
+  pub low : 0 < lo
+  pub order-low : lo ≤ reference
+  pub order-high : reference ≤ hi
+  pub high : hi ≤ 1500000000
+  pub len-pos : 0 < len
+  pub len-high : len ≤ 64
+
+pub record RoundOk (g : Stage) (r : Round) (b : RoundLog) : Type 0 where
+  pub stage : b .stage ≡ g
+  pub total : (x : Side) → totalsOf r x .total .0 ≡ T b x
+  pub paid : (x : Side) → totalsOf r x .paid .0 ≡ P b x
+  pub got : (x : Side) → totalsOf r x .got .0 ≡ G b x
+  pub held : (x : Side) → heldIn r x + wentOut b x ≡ cameIn b x
+  -- the round's set has just the tickets that wait
+  pub marks : (k : ℕ) → k < 64 → bit (r .tickets) k ≡ isWaiting (b .part k)
+  pub marks-small : r .tickets < 2 ^ 64
+  pub within : (x : Side) → P b x ≤ T b x
+  pub empty : (x : Side) → T b x ≡ 0 → G b x ≡ 0
+  pub rate : (x : Side) → Rate x (r .hi .0) (r .lo .0) (P b x) (G b x)
+  pub parts : (k : ℕ) → k < 64 → PartOk g (r .hi .0) (r .lo .0) b (b .part k)
+  pub terms : TermsOk (r .reference .0) (r .hi .0) (r .lo .0) (r .length)
+  pub small-total : (x : Side) → T b x ≤ largest
+  pub small-got : (x : Side) → G b x ≤ largest
+
+-- before the match nothing is traded
+pub record Quiet (b : RoundLog) : Type 0 where
+  pub traded-zero : (x : Side) → traded b x ≡ 0
+  pub taken-zero : (x : Side) → taken b x ≡ 0
+  pub given-zero : (x : Side) → given b x ≡ 0
+
+abbrev pub MarketOk : Phase → Current → Type 0
+MarketOk Closed idle = Unit {0}
+MarketOk Closed (running b) = ⊥
+MarketOk (Collect r) idle = ⊥
+MarketOk (Collect r) (running b) = RoundOk collecting r b × Quiet b
+MarketOk (Auction r) idle = ⊥
+MarketOk (Auction r) (running b) = RoundOk auctioning r b
+MarketOk (Paying r) idle = ⊥
+MarketOk (Paying r) (running b) = RoundOk settled r b
+
+pub record Inv (h : Exchange) (y : History) : Type 0 where
+  pub sized : Sized h
+  pub tickets : (k : ℕ) → k < 64 → TicketOk (ticket h k)
+  pub orders : (k : ℕ) → k < 64 → y .orders k ≡ placedOf (ticket h k)
+  pub places : (k : ℕ) → k < 64 → (n : ℕ) → 0 < n → n < 4 → atWork (partIn (y .rounds n) k) ≡ saysIn (ticket h k) n
+  pub markets : (n : ℕ) → 0 < n → n < 4 → MarketOk (phase h n) (y .rounds n)
+  pub conserved : (t : ℕ) → t < 4 → balances h t + resting h t + inRounds y t + residue h t ≡ supply h t
+  pub supplied : (t : ℕ) → t < 4 → supply h t + y .withdrawn t ≡ y .deposited t
+  pub bounded : (t : ℕ) → t < 4 → supply h t ≤ largest
+  pub residue-is : (t : ℕ) → t < 4 → residue h t ≡ sumOver (putBy t) (y .ended)
+  pub ended-well : All EndedWell (y .ended)
+  pub limits : All LimitKept (y .payouts)
+
+-- ---- which case a ticket, a phase or a market's round is
+
+pub free-is : (s : TicketState) → isFree s ≡ true → s ≡ Free
+free-is Free e = refl
+free-is (Resting o) e = cc
+free-is (Entered o) e = cc
+
+pub resting-is : (s : TicketState) → isFree s ≡ false → isEntered s ≡ false → s ≡ Resting (orderIn s)
+resting-is Free e f = cc
+resting-is (Resting o) e f = refl
+resting-is (Entered o) e f = cc
+
+pub entered-is : (s : TicketState) → isEntered s ≡ true → s ≡ Entered (orderIn s)
+entered-is Free e = cc
+entered-is (Resting o) e = cc
+entered-is (Entered o) e = refl
+
+pub closed-is : (p : Phase) → isClosed p ≡ true → p ≡ Closed
+closed-is Closed e = refl
+closed-is (Collect r) e = cc
+closed-is (Auction r) e = cc
+closed-is (Paying r) e = cc
+
+pub collect-is : (p : Phase) → isCollect p ≡ true → p ≡ Collect (roundIn p)
+collect-is Closed e = cc
+collect-is (Collect r) e = refl
+collect-is (Auction r) e = cc
+collect-is (Paying r) e = cc
+
+pub auction-is : (p : Phase) → isAuction p ≡ true → p ≡ Auction (roundIn p)
+auction-is Closed e = cc
+auction-is (Collect r) e = cc
+auction-is (Auction r) e = refl
+auction-is (Paying r) e = cc
+
+pub paying-is : (p : Phase) → isPaying p ≡ true → p ≡ Paying (roundIn p)
+paying-is Closed e = cc
+paying-is (Collect r) e = cc
+paying-is (Auction r) e = cc
+paying-is (Paying r) e = refl
+
+pub idle-is : (c : Current) → MarketOk Closed c → c ≡ idle
+idle-is idle k = refl
+idle-is (running b) k = absurd k
+
+-- a market that is not closed has a running round in history
+pub running-is : (p : Phase) (c : Current) → isClosed p ≡ false → MarketOk p c → c ≡ running (logOf c)
+running-is p (running b) n k = refl
+running-is Closed idle n k = absurd (let z : _≡_ {A = ℕ} 0 1 = cc in omega arith)
+running-is (Collect r) idle n k = absurd k
+running-is (Auction r) idle n k = absurd k
+running-is (Paying r) idle n k = absurd k
+
+-- ---- history's changes of a round that stands at the stage they ask for
+
+stage-self : {A : Type 0} (g : Stage) (a b : A) → cond (sameStage g g) a b ≡ a
+stage-self collecting a b = refl
+stage-self auctioning a b = refl
+stage-self settled a b = refl
+
+pub changed-at : (g : Stage) (f : RoundLog → RoundLog) (c : Current) (b : RoundLog) → c ≡ running b → b .stage ≡ g → changedAt g f c ≡ running (f b)
+changed-at g f c b e s =
+    ap (changedAt g f) e ∙ ap (λ v. running (cond (sameStage g v) (f b) b)) s ∙ ap running (stage-self g (f b) b)
+
+pub ended-at : (g : Stage) (f : RoundLog → RoundLog) (y : History) (n : ℕ) (c : Current) (b : RoundLog) → c ≡ running b → b .stage ≡ g → endedAt g f y n c ≡ endOrRound y n (f b)
+ended-at g f y n c b e s =
+    ap (endedAt g f y n) e ∙ ap (λ v. cond (sameStage g v) (endOrRound y n (f b)) y) s ∙ stage-self g (endOrRound y n (f b)) y

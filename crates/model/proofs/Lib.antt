@@ -1,0 +1,14 @@
+pub mod Reading
+pub mod Inv
+pub mod Frames
+pub mod Funding
+pub mod Orders
+pub mod SideLaw
+pub mod Rounds
+pub mod Open
+pub mod Enter
+pub mod Match
+pub mod Bid
+pub mod Settle
+pub mod Claim
+pub mod WholeRun

@@ -1,0 +1,157 @@
+-- Open keeps the invariant.
+use Prim.Native.Nat.{_+_, _-_, _<_, _≤_, ℕ}
+use mathlib.Core.Bool.{_||_, false}
+use mathlib.Core.Path.{_≡_, ap, refl, subst, sym}
+use native.Mathlib.Nat.{zero-sub}
+use native.Mathlib.Omega.{arith}
+use lib.Dec.{lit<, ltb}
+use borrow.Author.Tests.{ltb-false, not-false}
+use Rattle.model.specs.Calls.{openDone, openTests, openedRound, outside}
+use Rattle.model.specs.History.{Current, G, History, P, T, absent, cameIn, collecting, emptyLog, given, holds, idle, movedOut, openedOn, running, taken, traded, wentOut, withAccepted, withEvent, withRound}
+use Rattle.model.specs.State.{isClosed, phase, totalsOf, withPhase}
+use Rattle.model.specs.WholeRun.{currentHolds, holdsOf}
+use Rattle.model.specs.declared.state.Exchange.{Exchange}
+use Rattle.model.specs.declared.state.Phase.{Phase}
+use Rattle.model.specs.declared.state.Phase.the-variants.{Closed, Collect}
+use Rattle.pricing.specs.Prices.{highBound, lowBound}
+use Rattle.pricing.specs.declared.Side.{Side}
+use Rattle.pricing.specs.declared.Side.the-variants.{Buy, Sell}
+use Rattle.units.specs.Sums.{only}
+use Rattle.model.proofs.Frames.{inside, markets-set, places-round}
+use Rattle.model.proofs.Inv.{Inv, MarketOk, Quiet, RoundOk, atWork, closed-is, heldIn, idle-is, partIn}
+use Rattle.model.proofs.Reading.{inRounds-set, sized-block, sized-phase}
+use Rattle.pricing.proofs.Limits.{rate-none}
+use Rattle.pricing.proofs.Prices.{high-le, le-high, low-le, low-pos}
+use Rattle.ticket_set.proofs.Laws.{bit-of-empty}
+use Rattle.units.proofs.Decide.{Passed, or-false}
+use Rattle.units.proofs.Sums.{only-zero, sum-zero}
+use Rattle.model.specs.declared.call.Call.the-variants as Call
+
+-- ---- a round without tickets
+
+T-empty : (x : Side) → T emptyLog x ≡ 0
+unfolding T
+T-empty x = sum-zero 64 _ (λ k l. refl)
+
+P-empty : (x : Side) → P emptyLog x ≡ 0
+unfolding P
+P-empty Buy = refl
+P-empty Sell = refl
+
+G-empty : (x : Side) → G emptyLog x ≡ 0
+unfolding G
+G-empty Buy = refl
+G-empty Sell = refl
+
+came-empty : (x : Side) → cameIn emptyLog x ≡ 0
+unfolding cameIn
+came-empty Buy = omega (arith, T-empty Buy)
+came-empty Sell = omega (arith, T-empty Sell)
+
+went-empty : (x : Side) → wentOut emptyLog x ≡ 0
+unfolding wentOut
+went-empty Buy = omega (arith, sum-zero 64 (λ k. movedOut Buy absent) (λ k l. refl))
+went-empty Sell = omega (arith, sum-zero 64 (λ k. movedOut Sell absent) (λ k l. refl))
+
+holdsOf-empty : (mk u : ℕ) → holdsOf mk emptyLog u ≡ 0
+unfolding holds
+holdsOf-empty mk u =
+    omega (
+      arith,
+      ap (λ n. only 0 (n - wentOut emptyLog Buy) u) (came-empty Buy),
+      ap (λ n. only mk (n - wentOut emptyLog Sell) u) (came-empty Sell),
+      ap (λ n. only 0 n u) (zero-sub (wentOut emptyLog Buy)),
+      ap (λ n. only mk n u) (zero-sub (wentOut emptyLog Sell)),
+      only-zero 0 u,
+      only-zero mk u,
+    )
+
+opened-ok : (at r w len : ℕ) → 1 ≤ r → r ≤ 1000000000 → w ≤ 500000 → 0 < len → len ≤ 64 → RoundOk collecting (openedRound at r w len) emptyLog
+opened-ok at r w len hr hr2 hw hl hl2 =
+    record {
+      stage = refl;
+      total = t;
+      paid = p;
+      got = g;
+      held = d;
+      marks = λ k l. bit-of-empty k;
+      marks-small = lit< tt;
+      within = λ x. omega (arith, P-empty x);
+      empty = λ x e. G-empty x;
+      rate = λ x. rw (P-empty x) (rate-none x (highBound r w) (lowBound r w) (G emptyLog x));
+      parts = λ k l. tt;
+      terms =
+          record {
+            low = low-pos r w hr hw;
+            order-low = low-le r w;
+            order-high = le-high r w;
+            high = high-le r w hr2 hw;
+            len-pos = hl;
+            len-high = hl2;
+          };
+      small-total = λ x. omega (arith, T-empty x);
+      small-got = λ x. omega (arith, G-empty x);
+    }
+  where
+    t : (x : Side) → totalsOf (openedRound at r w len) x .total .0 ≡ T emptyLog x
+    t Buy = sym (T-empty Buy)
+    t Sell = sym (T-empty Sell)
+
+    p : (x : Side) → totalsOf (openedRound at r w len) x .paid .0 ≡ P emptyLog x
+    p Buy = sym (P-empty Buy)
+    p Sell = sym (P-empty Sell)
+
+    g : (x : Side) → totalsOf (openedRound at r w len) x .got .0 ≡ G emptyLog x
+    g Buy = sym (G-empty Buy)
+    g Sell = sym (G-empty Sell)
+
+    d : (x : Side) → heldIn (openedRound at r w len) x + wentOut emptyLog x ≡ cameIn emptyLog x
+    d Buy = omega (arith, came-empty Buy, went-empty Buy)
+    d Sell = omega (arith, came-empty Sell, went-empty Sell)
+
+quiet-empty : Quiet emptyLog
+quiet-empty = record { traded-zero = a; taken-zero = c; given-zero = d }
+  where
+    a : (x : Side) → traded emptyLog x ≡ 0
+    a Buy = refl
+    a Sell = refl
+
+    c : (x : Side) → taken emptyLog x ≡ 0
+    c Buy = refl
+    c Sell = refl
+
+    d : (x : Side) → given emptyLog x ≡ 0
+    d Buy = refl
+    d Sell = refl
+
+pub open-keeps : (h : Exchange) (y : History) (mk at r w len : ℕ) → Inv h y → Passed (openTests h mk at r w len)
+    → Inv (openDone h mk at r w len .exchange) (withEvent y (Call.Open mk at r w len) (openDone h mk at r w len .answer))
+unfolding withEvent withAccepted
+open-keeps h y mk at r w len i p =
+    let hmk : (1 ≤ mk) × (mk ≤ 3) = inside mk 1 3 (p .0) in
+    let e1 : (outside r 1 1000000000 ≡ false) × ((ltb 500000 w || outside len 1 64) ≡ false) = or-false (outside r 1 1000000000) (ltb 500000 w || outside len 1 64) (p .1 .0) in
+    let e2 : (ltb 500000 w ≡ false) × (outside len 1 64 ≡ false) = or-false (ltb 500000 w) (outside len 1 64) (e1 .1) in
+    let hr : (1 ≤ r) × (r ≤ 1000000000) = inside r 1 1000000000 (e1 .0) in
+    let hw : w ≤ 500000 = ltb-false 500000 w (e2 .0) in
+    let hl : (1 ≤ len) × (len ≤ 64) = inside len 1 64 (e2 .1) in
+    let ep : phase h mk ≡ Closed = closed-is (phase h mk) (not-false (isClosed (phase h mk)) (p .1 .1 .0)) in
+    let pos : 0 < mk = omega arith in
+    let lt4 : mk < 4 = omega arith in
+    let er : y .rounds mk ≡ idle = idle-is (y .rounds mk) (subst (λ (v : Phase). MarketOk v (y .rounds mk)) ep (i .markets mk pos lt4)) in
+    subst (λ (v : Current). Inv (openDone h mk at r w len .exchange) (withRound y mk v)) (sym (ap openedOn er))
+    (record {
+      sized = sized-block (withPhase h mk (Collect (openedRound at r w len))) at (sized-phase h mk (Collect (openedRound at r w len)) (i .sized));
+      tickets = i .tickets;
+      orders = i .orders;
+      places = places-round h mk (y .rounds) (running emptyLog) (λ j hj. sym (ap (λ (c : Current). atWork (partIn c j)) er)) (i .places);
+      markets =
+          markets-set h mk (Collect (openedRound at r w len)) (y .rounds) (running emptyLog) pos (omega (arith, i .sized .markets))
+          (opened-ok at r w len (hr .0) (hr .1) hw (omega arith) (hl .1), quiet-empty) (i .markets);
+      conserved =
+          λ u hu. omega (arith, inRounds-set y mk (running emptyLog) pos lt4 u, holdsOf-empty mk u, ap (λ (c : Current). currentHolds mk c u) er, i .conserved u hu);
+      supplied = i .supplied;
+      bounded = i .bounded;
+      residue-is = i .residue-is;
+      ended-well = i .ended-well;
+      limits = i .limits;
+    })

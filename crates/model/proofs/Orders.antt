@@ -1,0 +1,98 @@
+-- Order and cancel keep the invariant.
+use Prim.Native.Nat.{_<_, _≤_, ℕ}
+use mathlib.Core.Bool.{false, not}
+use mathlib.Core.Path.{_≡_, ap, refl, subst, sym}
+use native.Mathlib.Omega.{arith}
+use lib.Dec.{eqb}
+use borrow.Author.Tests.{eqb-false, ltb-false, not-false}
+use Rattle.model.specs.Calls.{cancelDone, cancelTests, orderDone, orderTests, outside}
+use Rattle.model.specs.History.{History, no-order, placed, withAccepted, withEvent}
+use Rattle.model.specs.Sides.{offered, sideOf}
+use Rattle.model.specs.State.{balance, credit, debit, isFree, orderIn, ticket}
+use Rattle.model.specs.WholeRun.{restingIn}
+use Rattle.model.specs.declared.state.Exchange.{Exchange}
+use Rattle.model.specs.declared.state.Order.{Order}
+use Rattle.model.specs.declared.state.TicketState.the-variants.{Free, Resting}
+use Rattle.units.specs.Counts.{amount, price}
+use Rattle.units.specs.Sums.{only}
+use Rattle.ledger.proofs.Laws.{credited-total, debited-total}
+use Rattle.model.proofs.Frames.{inside, offered-lt, orders-set, places-set, tickets-set}
+use Rattle.model.proofs.Inv.{Inv, OrderOk, TicketOk, free-is, resting-is, saysIn}
+use Rattle.model.proofs.Reading.{Sized, resting-set, sized-credit, sized-debit, sized-ticket}
+use Rattle.units.proofs.Decide.{Passed, or-false}
+use Rattle.model.specs.declared.call.Call.the-variants as Call
+
+pub order-keeps : (h : Exchange) (y : History) (k m mk sd lim n : ℕ) → Inv h y → Passed (orderTests h k m mk sd lim n)
+    → Inv (orderDone h k m mk sd lim n .exchange) (withEvent y (Call.Order k m mk sd lim n) (orderDone h k m mk sd lim n .answer))
+unfolding withEvent withAccepted
+order-keeps h y k m mk sd lim n i p =
+    let tok : ℕ = offered (sideOf sd) mk in
+    let hm : m ≤ 15 = ltb-false 15 m (p .0) in
+    let hmk : (1 ≤ mk) × (mk ≤ 3) = inside mk 1 3 (p .1 .0) in
+    let hk : k ≤ 63 = ltb-false 63 k (p .1 .1 .0) in
+    let ea : (eqb n 0 ≡ false) × (outside lim 1 2000000000 ≡ false) = or-false (eqb n 0) (outside lim 1 2000000000) (p .1 .1 .1 .1 .0) in
+    let hl : (1 ≤ lim) × (lim ≤ 2000000000) = inside lim 1 2000000000 (ea .1) in
+    let hn : n ≡ 0 → ⊥ = eqb-false n 0 (ea .0) in
+    let et : ticket h k ≡ Free = free-is (ticket h k) (not-false (isFree (ticket h k)) (p .1 .1 .1 .1 .1 .0)) in
+    let hb : n ≤ balance h m tok = ltb-false (balance h m tok) n (p .1 .1 .1 .1 .1 .1 .0) in
+    let o : Order = record { member = m; market = mk; side = sideOf sd; limit = price lim; offer = amount n } in
+    let h1 : Exchange = debit h m tok n in
+    let z1 : Sized h1 = sized-debit h m tok n (i .sized) in
+    let lk : k < 64 = omega arith in
+    let er : (u : ℕ) → restingIn (ticket h k) u ≡ 0 = λ u. ap (λ t. restingIn t u) et in
+    let ok : OrderOk o = record { member = omega arith; market-low = omega arith; market-high = omega arith; limit = omega arith; offer = omega arith } in
+    record {
+      sized = sized-ticket h1 k (Resting o) z1;
+      tickets = tickets-set h1 k (Resting o) (omega (arith, z1 .tickets)) ok (i .tickets);
+      orders = orders-set h1 k (Resting o) (omega (arith, z1 .tickets)) (y .orders) (placed m mk (sideOf sd) lim n) refl (i .orders);
+      places = places-set h1 k (Resting o) (omega (arith, z1 .tickets)) (y .rounds) (λ a. sym (ap (λ t. saysIn t a) et)) (i .places);
+      markets = i .markets;
+      conserved =
+          λ u hu. omega (
+            arith,
+            debited-total (h .ledger) m tok n (i .sized .shaped) (omega arith) (offered-lt (sideOf sd) mk (omega arith)) hb u,
+            resting-set h1 k (Resting o) z1 lk u,
+            er u,
+            i .conserved u hu,
+          );
+      supplied = i .supplied;
+      bounded = i .bounded;
+      residue-is = i .residue-is;
+      ended-well = i .ended-well;
+      limits = i .limits;
+    }
+
+pub cancel-keeps : (h : Exchange) (y : History) (k m : ℕ) → Inv h y → Passed (cancelTests h k m)
+    → Inv (cancelDone h k m .exchange) (withEvent y (Call.Cancel k m) (cancelDone h k m .answer))
+unfolding withEvent withAccepted
+cancel-keeps h y k m i p =
+    let o : Order = orderIn (ticket h k) in
+    let tok : ℕ = offered (o .side) (o .market) in
+    let hm : m ≤ 15 = ltb-false 15 m (p .0) in
+    let hk : k ≤ 63 = ltb-false 63 k (p .1 .0) in
+    let lk : k < 64 = omega arith in
+    let et : ticket h k ≡ Resting o = resting-is (ticket h k) (or-false (isFree (ticket h k)) (not (eqb (o .member) m)) (p .1 .1 .0) .0) (p .1 .1 .1 .0) in
+    let ok : OrderOk o = subst TicketOk et (i .tickets k lk) in
+    let h1 : Exchange = credit h m tok (o .offer .0) in
+    let z1 : Sized h1 = sized-credit h m tok (o .offer .0) (i .sized) in
+    let er : (u : ℕ) → restingIn (ticket h k) u ≡ only tok (o .offer .0) u = λ u. ap (λ t. restingIn t u) et in
+    record {
+      sized = sized-ticket h1 k Free z1;
+      tickets = tickets-set h1 k Free (omega (arith, z1 .tickets)) tt (i .tickets);
+      orders = orders-set h1 k Free (omega (arith, z1 .tickets)) (y .orders) no-order refl (i .orders);
+      places = places-set h1 k Free (omega (arith, z1 .tickets)) (y .rounds) (λ a. sym (ap (λ t. saysIn t a) et)) (i .places);
+      markets = i .markets;
+      conserved =
+          λ u hu. omega (
+            arith,
+            credited-total (h .ledger) m tok (o .offer .0) (i .sized .shaped) (omega arith) (offered-lt (o .side) (o .market) (ok .market-high)) u,
+            resting-set h1 k Free z1 lk u,
+            er u,
+            i .conserved u hu,
+          );
+      supplied = i .supplied;
+      bounded = i .bounded;
+      residue-is = i .residue-is;
+      ended-well = i .ended-well;
+      limits = i .limits;
+    }

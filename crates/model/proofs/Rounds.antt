@@ -1,0 +1,207 @@
+-- A round in history: what one changed part changes, that the round covers what it owes, and what it leaves.
+use Prim.Native.Nat.{_+_, _-_, _<_, _≤_, suc, zero, ℕ}
+use mathlib.Core.Logic.{_⊎_, inl, inr}
+use mathlib.Core.Path.{_∙_, _≡_, ap, refl, sym}
+use native.Mathlib.Nat.{eq-zero-or-pos}
+use native.Mathlib.Omega.{arith}
+use Rattle.model.specs.History.{Current, G, P, Part, RoundLog, Stage, T, absent, cameIn, claimed, holds, isWaiting, movedOut, offerOn, put, running, settled, taken, ticketCount, waiting, waitingCount, wentOut, withPart}
+use Rattle.model.specs.Sides.{offered, other}
+use Rattle.model.specs.WholeRun.{currentHolds, holdsOf, roundsTotal}
+use Rattle.pricing.specs.Prices.{shareGot, sharePaid}
+use Rattle.pricing.specs.declared.Side.{Side}
+use Rattle.pricing.specs.declared.Side.the-variants.{Buy, Sell}
+use Rattle.ticket_set.specs.TicketSet.{bit, countOf}
+use Rattle.units.specs.Sums.{sumTo}
+use Rattle.model.proofs.Inv.{ClaimedOk, ClaimsAt, PartOk, atWork}
+use Rattle.model.proofs.Reading.{put-each, put-other, put-same}
+use Rattle.model.proofs.SideLaw.{SideLaw, countOn, gotSum, on, on-both, paidSum, side-law}
+use Rattle.pricing.proofs.Shares.{got-none, paid-le-offer, paid-none}
+use Rattle.units.proofs.Sums.{only-same, sum-add, sum-at, sum-ext, sum-le, sum-zero, term-le, zero-terms}
+
+-- ---- a sum over parts after one part changed
+
+pub parts-at : (f : ℕ → Part → ℕ) (g : ℕ → Part) (k : ℕ) (q : Part) → k < 64
+    → sumTo 64 (λ j. f j (put g k q j)) + f k (g k) ≡ sumTo 64 (λ j. f j (g j)) + f k q
+parts-at f g k q hk =
+    let a : f k (put g k q k) ≡ f k q = ap (λ v. f k v) (put-same g k q) in
+    omega (
+      arith,
+      sum-at 64 k (λ j. f j (g j)) (λ j. f j (put g k q j)) hk (λ j lj d. ap (λ v. f j v) (put-other g k q j d)),
+    )
+
+module _ (b : RoundLog) (k : ℕ) (q : Part) (hk : k < 64) where
+  pub T-part : (x : Side) → T (withPart b k q) x + offerOn x (b .part k) ≡ T b x + offerOn x q
+  unfolding T
+  T-part x = parts-at (λ j p. offerOn x p) (b .part) k q hk
+
+  pub wentOut-part : (x : Side) → wentOut (withPart b k q) x + movedOut x (b .part k) ≡ wentOut b x + movedOut x q
+  unfolding wentOut
+  wentOut-part Buy = omega (arith, parts-at (λ j p. movedOut Buy p) (b .part) k q hk)
+  wentOut-part Sell = omega (arith, parts-at (λ j p. movedOut Sell p) (b .part) k q hk)
+
+  pub P-part : (x : Side) → P (withPart b k q) x ≡ P b x
+  unfolding P
+  P-part Buy = refl
+  P-part Sell = refl
+
+  pub G-part : (x : Side) → G (withPart b k q) x ≡ G b x
+  unfolding G
+  G-part Buy = refl
+  G-part Sell = refl
+
+  pub cameIn-part : (x : Side) → cameIn (withPart b k q) x + offerOn x (b .part k) ≡ cameIn b x + offerOn x q
+  unfolding cameIn
+  cameIn-part Buy = omega (arith, T-part Buy)
+  cameIn-part Sell = omega (arith, T-part Sell)
+
+-- ---- what a settled round owes
+
+-- what is due of the token that x offers, for one part: its refund, and what the other side's ticket gets
+abbrev pub duePart : RoundLog → Side → Part → ℕ
+duePart b x q =
+    (offerOn x q - sharePaid (offerOn x q) (P b x) (T b x)) + shareGot (offerOn (other x) q) (G b (other x)) (T b (other x))
+
+-- a claimed part was paid what is due
+due-claimed : (b : RoundLog) (x side : Side) (member limit o s got : ℕ) → ClaimedOk b side o s got
+    → movedOut x (claimed member side limit o s got) ≡ duePart b x (claimed member side limit o s got)
+due-claimed b Buy Buy member limit o s got c = omega (arith, c .s-is, got-none (G b Sell) (T b Sell))
+due-claimed b Buy Sell member limit o s got c = omega (arith, c .got-is)
+due-claimed b Sell Buy member limit o s got c = omega (arith, c .got-is)
+due-claimed b Sell Sell member limit o s got c = omega (arith, c .s-is, got-none (G b Buy) (T b Buy))
+
+due-le : (hi lo : ℕ) (b : RoundLog) (x : Side) (q : Part) → PartOk settled hi lo b q → movedOut x q ≤ duePart b x q
+due-le hi lo b x absent k = omega arith
+due-le hi lo b x (waiting member side limit o) k = omega arith
+due-le hi lo b x (claimed member side limit o s got) k = omega (arith, due-claimed b x side member limit o s got (k .1))
+
+due-eq : (hi lo : ℕ) (b : RoundLog) (x : Side) (q : Part) → PartOk settled hi lo b q → isWaiting q ≡ 0 → movedOut x q ≡ duePart b x q
+due-eq hi lo b x absent k w = omega (arith, got-none (G b (other x)) (T b (other x)))
+due-eq hi lo b x (waiting member side limit o) k w = omega arith
+due-eq hi lo b x (claimed member side limit o s got) k w = due-claimed b x side member limit o s got (k .1)
+
+-- all that is due, and all that tickets pay, is all that was offered and all that the other side's tickets get
+due-sum : (b : RoundLog) (x : Side) → P b x ≤ T b x → sumTo 64 (λ k. duePart b x (b .part k)) + paidSum b x ≡ T b x + gotSum b (other x)
+unfolding paidSum gotSum T
+due-sum b x within =
+    let s : ℕ → ℕ = λ k. sharePaid (offerOn x (b .part k)) (P b x) (T b x) in
+    let q : ℕ → ℕ = λ k. shareGot (offerOn (other x) (b .part k)) (G b (other x)) (T b (other x)) in
+    let e1 = sum-add 64 (λ k. (offerOn x (b .part k) - s k) + q k) s in
+    let e2 = sum-add 64 (λ k. offerOn x (b .part k)) q in
+    let e3 : sumTo 64 (λ k. (offerOn x (b .part k) - s k) + q k + s k) ≡ sumTo 64 (λ k. offerOn x (b .part k) + q k) =
+    sum-ext 64 _ _ (λ k l. omega (arith, fits k l (eq-zero-or-pos (T b x)))) in
+    omega arith
+  where
+    fits : (k : ℕ) → k < 64 → (T b x ≡ 0) ⊎ (0 < T b x) → sharePaid (offerOn x (b .part k)) (P b x) (T b x) ≤ offerOn x (b .part k)
+    fits k l (inl z) =
+        omega (arith, ap (λ o. sharePaid o (P b x) (T b x)) (zero-terms 64 (λ j. offerOn x (b .part j)) z k l) ∙ paid-none (P b x) (T b x))
+    fits k l (inr p) = paid-le-offer (offerOn x (b .part k)) (P b x) (T b x) p within
+
+module _ (hi lo : ℕ) (b : RoundLog) (parts : (k : ℕ) → k < 64 → PartOk settled hi lo b (b .part k)) (within : (x : Side) → P b x ≤ T b x)
+    (empty : (x : Side) → T b x ≡ 0 → G b x ≡ 0) where
+  law : (x : Side) → SideLaw b x
+  law x = side-law b x (within x) (empty x)
+
+  -- all that is due is covered
+  all-due : (x : Side) → sumTo 64 (λ k. duePart b x (b .part k)) + taken b x ≤ cameIn b x
+  unfolding cameIn P G
+  all-due Buy = omega (arith, due-sum b Buy (within Buy), law Buy .paid-enough, law Sell .got-within)
+  all-due Sell = omega (arith, due-sum b Sell (within Sell), law Sell .paid-enough, law Buy .got-within)
+
+  pub covers : (x : Side) → wentOut b x ≤ cameIn b x
+  unfolding wentOut
+  covers x =
+      omega (
+        arith,
+        all-due x,
+        sum-le 64 (λ k. movedOut x (b .part k)) (λ k. duePart b x (b .part k)) (λ k l. due-le hi lo b x (b .part k) (parts k l)),
+      )
+
+  -- the tickets of both sides are all tickets
+  counts : (x : Side) → countOn b x + countOn b (other x) ≡ ticketCount b
+  unfolding ticketCount countOn
+  counts x =
+      sym (sum-add 64 (λ k. on x (b .part k)) (λ k. on (other x) (b .part k)))
+      ∙ sum-ext 64 _ _ (λ k l. on-both x (b .part k))
+
+  -- what is left once all that is due is paid is less than the number of tickets
+  left-over : (x : Side) → 0 < ticketCount b → cameIn b x < sumTo 64 (λ k. duePart b x (b .part k)) + taken b x + ticketCount b
+  unfolding cameIn P G
+  left-over x pos = go x (eq-zero-or-pos (countOn b x)) (eq-zero-or-pos (countOn b (other x)))
+    where
+      go : (x : Side) → (countOn b x ≡ 0) ⊎ (0 < countOn b x) → (countOn b (other x) ≡ 0) ⊎ (0 < countOn b (other x))
+          → cameIn b x < sumTo 64 (λ k. duePart b x (b .part k)) + taken b x + ticketCount b
+      go x (inl u) (inl v) = absurd (omega (arith, counts x))
+      go Buy (inl u) (inr v) = omega (arith, counts Buy, due-sum b Buy (within Buy), law Buy .none-paid u, law Sell .got-close v)
+      go Sell (inl u) (inr v) = omega (arith, counts Sell, due-sum b Sell (within Sell), law Sell .none-paid u, law Buy .got-close v)
+      go Buy (inr u) (inl v) = omega (arith, counts Buy, due-sum b Buy (within Buy), law Buy .paid-close u, law Sell .none-got v)
+      go Sell (inr u) (inl v) = omega (arith, counts Sell, due-sum b Sell (within Sell), law Sell .paid-close u, law Buy .none-got v)
+      go Buy (inr u) (inr v) = omega (arith, counts Buy, due-sum b Buy (within Buy), law Buy .paid-close u, law Sell .got-close v)
+      go Sell (inr u) (inr v) = omega (arith, counts Sell, due-sum b Sell (within Sell), law Sell .paid-close u, law Buy .got-close v)
+
+  -- what a round holds when all its tickets are claimed
+  pub leaves : ((k : ℕ) → k < 64 → isWaiting (b .part k) ≡ 0) → 0 < ticketCount b → (x : Side) → holds b x < ticketCount b
+  unfolding holds wentOut
+  leaves over pos x =
+      let e : sumTo 64 (λ k. movedOut x (b .part k)) ≡ sumTo 64 (λ k. duePart b x (b .part k)) =
+      sum-ext 64 _ _ (λ k l. due-eq hi lo b x (b .part k) (parts k l) (over k l)) in
+      omega (arith, left-over x pos, covers x)
+
+-- ---- the tickets that wait
+
+-- the count of set bits is the number of tickets that wait
+pub marks-count : (s : ℕ) (b : RoundLog) → ((k : ℕ) → k < 64 → bit s k ≡ isWaiting (b .part k)) → countOf s ≡ waitingCount b
+unfolding countOf waitingCount
+marks-count s b e = sum-ext 64 _ _ e
+
+pub none-waiting : (b : RoundLog) → waitingCount b ≡ 0 → (k : ℕ) → k < 64 → isWaiting (b .part k) ≡ 0
+unfolding waitingCount
+none-waiting b e k l = zero-terms 64 (λ j. isWaiting (b .part j)) e k l
+
+-- the set after one part changed
+pub marks-part : (s s′ k : ℕ) (b : RoundLog) (q : Part) → bit s′ k ≡ isWaiting q → ((j : ℕ) → (j ≡ k → ⊥) → bit s′ j ≡ bit s j)
+    → ((j : ℕ) → j < 64 → bit s j ≡ isWaiting (b .part j)) → (j : ℕ) → j < 64 → bit s′ j ≡ isWaiting (withPart b k q .part j)
+marks-part s s′ k b q here there marks j hj =
+    put-each (λ i v. bit s′ i ≡ isWaiting v) (b .part) k q j (λ e. here) (λ d. there j d ∙ marks j hj)
+
+-- a part that does not wait is not at work
+pub over-work : (q : Part) → isWaiting q ≡ 0 → atWork q ≡ absent
+over-work absent e = refl
+over-work (waiting member side limit o) e = absurd (omega arith)
+over-work (claimed member side limit o s got) e = refl
+
+-- ---- before claims, nothing has moved out by claims
+
+module _ (g : Stage) (early : ClaimsAt g → ⊥) (hi lo : ℕ) (b : RoundLog) where
+  no-claims : (z : Side) (q : Part) → PartOk g hi lo b q → movedOut z q ≡ 0
+  no-claims z absent k = refl
+  no-claims z (waiting member side limit o) k = refl
+  no-claims z (claimed member side limit o s got) k = absurd (early (k .0))
+
+  pub went-zero : ((k : ℕ) → k < 64 → PartOk g hi lo b (b .part k)) → (z : Side) → wentOut b z ≡ taken b z
+  unfolding wentOut
+  went-zero ok z =
+      omega (arith, sum-zero 64 (λ k. movedOut z (b .part k)) (λ k l. no-claims z (b .part k) (ok k l)))
+
+  -- such a part is as right at a later stage, and with other trades
+  pub part-early : (g′ : Stage) (b′ : RoundLog) (q : Part) → PartOk g hi lo b q → PartOk g′ hi lo b′ q
+  part-early g′ b′ absent k = tt
+  part-early g′ b′ (waiting member side limit o) k = k
+  part-early g′ b′ (claimed member side limit o s got) k = absurd (early (k .0))
+
+  -- and where it is not at work, there is none
+  pub absent-is : (q : Part) → PartOk g hi lo b q → atWork q ≡ absent → q ≡ absent
+  absent-is absent k e = refl
+  absent-is (waiting member side limit o) k e = e
+  absent-is (claimed member side limit o s got) k e = absurd (early (k .0))
+
+-- what a round holds of a token is within what all rounds hold of it
+pub held-within : (mk : ℕ) (f : ℕ → Current) (b : RoundLog) (x : Side) → 0 < mk → mk < 4 → f mk ≡ running b → holds b x ≤ roundsTotal f (offered x mk)
+unfolding roundsTotal
+held-within zero f b x p l e = absurd (omega arith)
+held-within (suc j) f b x p l e =
+    let a : currentHolds (suc j) (f (suc j)) (offered x (suc j)) ≡ holdsOf (suc j) b (offered x (suc j)) = ap (λ (v : Current). currentHolds (suc j) v (offered x (suc j))) e in
+    omega (arith, term-le 3 j (λ n. currentHolds (suc n) (f (suc n)) (offered x (suc j))) (omega arith), part x)
+  where
+    part : (x : Side) → holds b x ≤ holdsOf (suc j) b (offered x (suc j))
+    part Buy = omega (arith, only-same 0 (holds b Buy))
+    part Sell = omega (arith, only-same (suc j) (holds b Sell))

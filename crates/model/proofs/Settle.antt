@@ -1,0 +1,177 @@
+-- Settle keeps the invariant, also where it closes the market.
+use Prim.Native.Nat.{_+_, _-_, _<_, _≤_, ℕ}
+use mathlib.Core.Bool.{Bool, false, true}
+use mathlib.Core.List.{_∷_}
+use mathlib.Core.Path.{_∙_, _≡_, ap, ap₂, refl, subst, subst₂, sym}
+use native.Mathlib.Omega.{arith}
+use lib.Dec.{eqb}
+use borrow.Author.Tests.{eqb-true, not-false}
+use Rattle.model.specs.Calls.{settleDone, settleTests, settledPhase}
+use Rattle.model.specs.History.{Current, G, History, P, RoundLog, T, absent, auctioning, cameIn, endOrRound, given, holds, idle, isTicket, logOf, offerOn, running, settled, ticketCount, waitingCount, wentOut, withAccepted, withEnd, withEvent, withRound, withSettle}
+use Rattle.model.specs.State.{isAuction, isClosed, phase, residue, roundIn, withBlock, withPhase}
+use Rattle.model.specs.WholeRun.{cons, currentHolds, holdsOf, putBy}
+use Rattle.model.specs.declared.state.Exchange.{Exchange}
+use Rattle.model.specs.declared.state.Phase.the-variants.{Auction, Closed, Paying}
+use Rattle.model.specs.declared.state.Round.{Round}
+use Rattle.pricing.specs.declared.Side.{Side}
+use Rattle.pricing.specs.declared.Side.the-variants.{Buy, Sell}
+use Rattle.units.specs.Sums.{only, sumOver}
+use Rattle.model.proofs.Frames.{inside, markets-set, places-round}
+use Rattle.model.proofs.Inv.{Inv, MarketOk, RoundOk, atWork, auction-is, ended-at, partIn, running-is}
+use Rattle.model.proofs.Reading.{inRounds-set, sized-block, sized-phase}
+use Rattle.model.proofs.Rounds.{absent-is, covers, marks-count, none-waiting, over-work, part-early}
+use Rattle.units.proofs.Decide.{Passed}
+use Rattle.units.proofs.Sums.{only-zero, sum-zero}
+use Rattle.model.specs.declared.call.Call.the-variants as Call
+
+module _ (h : Exchange) (y : History) (i : Inv h y) (mk at : ℕ) (pos : 0 < mk) (lt4 : mk < 4) (r : Round) (b : RoundLog)
+    (ep : phase h mk ≡ Auction r) (er : y .rounds mk ≡ running b) where
+  abbrev b1 : RoundLog
+  b1 = withSettle b
+
+  rOk : RoundOk auctioning r b
+  rOk = subst₂ MarketOk ep er (i .markets mk pos lt4)
+
+  T1 : (x : Side) → T b1 x ≡ T b x
+  unfolding T
+  T1 x = refl
+
+  P1 : (x : Side) → P b1 x ≡ P b x
+  unfolding P
+  P1 Buy = refl
+  P1 Sell = refl
+
+  G1 : (x : Side) → G b1 x ≡ G b x
+  unfolding G
+  G1 Buy = refl
+  G1 Sell = refl
+
+  came1 : (x : Side) → cameIn b1 x ≡ cameIn b x
+  unfolding cameIn T
+  came1 Buy = refl
+  came1 Sell = refl
+
+  went1 : (x : Side) → wentOut b1 x ≡ wentOut b x
+  unfolding wentOut
+  went1 Buy = refl
+  went1 Sell = refl
+
+  round1 : RoundOk settled r b1
+  round1 =
+      record {
+        stage = refl;
+        total = λ x. rOk .total x ∙ sym (T1 x);
+        paid = λ x. rOk .paid x ∙ sym (P1 x);
+        got = λ x. rOk .got x ∙ sym (G1 x);
+        held = λ x. omega (arith, rOk .held x, came1 x, went1 x);
+        marks = rOk .marks;
+        marks-small = rOk .marks-small;
+        within = λ x. omega (arith, rOk .within x, P1 x, T1 x);
+        empty = λ x e. G1 x ∙ rOk .empty x (sym (T1 x) ∙ e);
+        rate = λ x. rw (P1 x, G1 x) (rOk .rate x);
+        parts = λ k l. part-early auctioning (λ e. e) (r .hi .0) (r .lo .0) b settled b1 (b .part k) (rOk .parts k l);
+        terms = rOk .terms;
+        small-total = λ x. omega (arith, T1 x, rOk .small-total x);
+        small-got = λ x. omega (arith, G1 x, rOk .small-got x);
+      }
+
+  holdsOf1 : (u : ℕ) → holdsOf mk b1 u ≡ holdsOf mk b u
+  unfolding holds
+  holdsOf1 u =
+      ap₂ (λ p q. only 0 p u + only mk q u)
+      (ap₂ (λ p q. p - q) (came1 Buy) (went1 Buy)) (ap₂ (λ p q. p - q) (came1 Sell) (went1 Sell))
+
+  goes-on : Inv (withBlock (withPhase h mk (Paying r)) at) (withRound y mk (running b1))
+  goes-on =
+      record {
+        sized = sized-block (withPhase h mk (Paying r)) at (sized-phase h mk (Paying r) (i .sized));
+        tickets = i .tickets;
+        orders = i .orders;
+        places = places-round h mk (y .rounds) (running b1) (λ j hj. sym (ap (λ (v : Current). atWork (partIn v j)) er)) (i .places);
+        markets = markets-set h mk (Paying r) (y .rounds) (running b1) pos (omega (arith, i .sized .markets)) round1 (i .markets);
+        conserved =
+            λ u hu. omega (arith, inRounds-set y mk (running b1) pos lt4 u, holdsOf1 u, ap (λ (v : Current). currentHolds mk v u) er, i .conserved u hu);
+        supplied = i .supplied;
+        bounded = i .bounded;
+        residue-is = i .residue-is;
+        ended-well = i .ended-well;
+        limits = i .limits;
+      }
+
+  -- no ticket waits: the round had none, and holds nothing
+  module _ (last : waitingCount b1 ≡ 0) where
+    no-part : (k : ℕ) → k < 64 → b .part k ≡ absent
+    no-part k l =
+        absent-is auctioning (λ e. e) (r .hi .0) (r .lo .0) b (b .part k) (rOk .parts k l) (over-work (b .part k) (none-waiting b1 last k l))
+
+    no-tickets : ticketCount b1 ≡ 0
+    unfolding ticketCount
+    no-tickets = sum-zero 64 _ (λ k l. ap isTicket (no-part k l))
+
+    T-zero : (x : Side) → T b x ≡ 0
+    unfolding T
+    T-zero x = sum-zero 64 _ (λ k l. ap (offerOn x) (no-part k l))
+
+    given-zero : (x : Side) → given b x ≡ 0
+    unfolding G
+    given-zero Buy = omega (arith, rOk .empty Sell (T-zero Sell))
+    given-zero Sell = omega (arith, rOk .empty Buy (T-zero Buy))
+
+    holds-zero : (x : Side) → holds b1 x ≡ 0
+    unfolding holds cameIn
+    holds-zero x = omega (arith, came1 x, T-zero x, given-zero x)
+
+    holdsOf-zero : (u : ℕ) → holdsOf mk b1 u ≡ 0
+    holdsOf-zero u = omega (arith, ap (λ v. only 0 v u) (holds-zero Buy), ap (λ v. only mk v u) (holds-zero Sell), only-zero 0 u, only-zero mk u)
+
+    into : (u : ℕ) → u < 4 → residue h u ≡ sumOver (putBy u) (record { market = mk; log = b1 } ∷ y .ended)
+    unfolding sumOver
+    into u hu = omega (arith, holdsOf-zero u, i .residue-is u hu)
+
+    closes : Inv (withBlock (withPhase h mk Closed) at) (withEnd y mk b1)
+    closes =
+        record {
+          sized = sized-block (withPhase h mk Closed) at (sized-phase h mk Closed (i .sized));
+          tickets = i .tickets;
+          orders = i .orders;
+          places =
+              places-round h mk (y .rounds) idle
+              (λ j hj. sym (over-work (b .part j) (none-waiting b1 last j hj)) ∙ sym (ap (λ (v : Current). atWork (partIn v j)) er)) (i .places);
+          markets = markets-set h mk Closed (y .rounds) idle pos (omega (arith, i .sized .markets)) tt (i .markets);
+          conserved =
+              λ u hu. omega (arith, inRounds-set y mk idle pos lt4 u, holdsOf1 u, holdsOf-zero u, ap (λ (v : Current). currentHolds mk v u) er, i .conserved u hu);
+          supplied = i .supplied;
+          bounded = i .bounded;
+          residue-is = into;
+          ended-well =
+              cons
+              (record {
+                covered = record { covered = covers (r .hi .0) (r .lo .0) b1 (round1 .parts) (round1 .within) (round1 .empty) };
+                fewer = λ p x. absurd (omega (arith, no-tickets));
+                nothing-put = λ e u. holdsOf-zero u;
+              })
+              (i .ended-well);
+          limits = i .limits;
+        }
+
+  settles : Inv (withBlock (withPhase h mk (settledPhase r)) at) (endOrRound y mk b1)
+  settles = go (eqb (waitingCount b1) 0) refl
+    where
+      go : (q : Bool) → eqb (waitingCount b1) 0 ≡ q → Inv (withBlock (withPhase h mk (settledPhase r)) at) (endOrRound y mk b1)
+      go true e = rw (marks-count (r .tickets) b1 (rOk .marks), e) (closes (eqb-true (waitingCount b1) 0 e))
+      go false e = rw (marks-count (r .tickets) b1 (rOk .marks), e) goes-on
+
+pub settle-keeps : (h : Exchange) (y : History) (mk at : ℕ) → Inv h y → Passed (settleTests h mk at)
+    → Inv (settleDone h mk at .exchange) (withEvent y (Call.Settle mk at) (settleDone h mk at .answer))
+unfolding withEvent withAccepted
+settle-keeps h y mk at i p =
+    let hmk : (1 ≤ mk) × (mk ≤ 3) = inside mk 1 3 (p .0) in
+    let r : Round = roundIn (phase h mk) in
+    let ep : phase h mk ≡ Auction r = auction-is (phase h mk) (not-false (isAuction (phase h mk)) (p .1 .0)) in
+    let pos : 0 < mk = omega arith in
+    let lt4 : mk < 4 = omega arith in
+    let er : y .rounds mk ≡ running (logOf (y .rounds mk)) = running-is (phase h mk) (y .rounds mk) (ap isClosed ep) (i .markets mk pos lt4) in
+    let b : RoundLog = logOf (y .rounds mk) in
+    subst (λ (v : History). Inv (settleDone h mk at .exchange) v)
+    (sym (ended-at auctioning withSettle y mk (y .rounds mk) b er (rOk h y i mk at pos lt4 r b ep er .stage)))
+    (settles h y i mk at pos lt4 r b ep er)

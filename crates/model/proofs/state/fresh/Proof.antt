@@ -1,0 +1,13 @@
+use borrow.Author.Needs.{needs}
+use Rattle.model.proofs.state.fresh.Statement.{statement}
+use Rattle.model.proofs.state.fresh.Tie as tie
+use Rattle.ledger.proofs.fresh.Reads as fresh-reads
+
+fresh-requires : tie.Need-fresh-requires
+fresh-requires c κs = search needs
+
+returns : tie.Need-returns
+returns c = rw (c .fresh .ensures)
+
+pub fresh-spec : {M : Type 1} → statement M
+fresh-spec = tie.close (tie.spec fresh-requires returns)

@@ -1,0 +1,26 @@
+-- Sides and tokens: "side (0 buy, offers quote; 1 sell, offers base)". Token 0 is the quote, and market n's base is token n.
+use Prim.Native.Nat.{ℕ, zero, suc}
+use Rattle.pricing.specs.declared.Side.{Side}
+use Rattle.pricing.specs.declared.Side.the-variants.{Buy, Sell}
+
+abbrev pub sideOf : ℕ → Side
+sideOf zero = Buy
+sideOf (suc n) = Sell
+
+abbrev pub other : Side → Side
+other Buy = Sell
+other Sell = Buy
+
+-- the first for buys, the second for sells
+abbrev pub bySide {ℓ} : {A : Type ℓ} → Side → A → A → A
+bySide Buy a b = a
+bySide Sell a b = b
+
+-- the token that a side offers, and the one that it gets
+abbrev pub offered : Side → ℕ → ℕ
+offered Buy market = 0
+offered Sell market = market
+
+abbrev pub wanted : Side → ℕ → ℕ
+wanted Buy market = market
+wanted Sell market = 0

@@ -1,0 +1,5 @@
+pub mod Prices
+pub mod Trades
+pub mod Shares
+pub mod Limits
+pub mod Examples

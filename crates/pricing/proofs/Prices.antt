@@ -1,0 +1,90 @@
+-- Laws of a round's bounds and of the auction's prices.
+use mathlib.Core.Path.{_≡_, refl}
+use Prim.Native.Nat.{ℕ, zero, suc, _+_, _-_, _*_, _≤_, _<_}
+use native.Mathlib.Nat.{le-of-mul-le-mul-left, mul-le-mul-left, mul-le-mul, mul-zero, zero-mul, le-antisymm}
+use native.Mathlib.Omega.{arith}
+use lib.Dec.{lit<}
+use Rattle.units.specs.Counts.{million}
+use Rattle.units.specs.Rounding.{down}
+use Rattle.units.proofs.Rounding.{down-low, up-low, le-down, down-mono, part-down-le, part-up-le, whole-down}
+use Rattle.pricing.specs.declared.Side.{Side}
+use Rattle.pricing.specs.declared.Side.the-variants.{Buy, Sell}
+use Rattle.pricing.specs.Prices.{highBound, lowBound, auctionPrice}
+
+-- a million is not 0
+pub million-pos : 0 < million
+million-pos = lit< tt
+
+-- nothing, divided by anything, is nothing
+pub down-none : (b : ℕ) → down 0 b ≡ 0
+unfolding down
+down-none zero = refl
+down-none (suc b) = rw (zero-mul (suc b)) at (whole-down 0 (suc b) (omega arith))
+
+-- ---- open: the bounds
+
+-- the low bound is no higher than the reference price
+pub low-le : (r w : ℕ) → lowBound r w ≤ r
+unfolding lowBound
+low-le r w = part-up-le r (million - w) million million-pos (omega arith)
+
+-- the high bound is no lower than the reference price
+pub le-high : (r w : ℕ) → r ≤ highBound r w
+unfolding highBound
+le-high r w = le-down (r * (million + w)) million r million-pos (omega arith)
+
+-- the high bound of any reference price and slack that open takes
+pub high-le : (r w : ℕ) → r ≤ 1000000000 → w ≤ 500000 → highBound r w ≤ 1500000000
+unfolding highBound
+high-le r w h g =
+    let p : r * (million + w) ≤ 1000000000 * 1500000 = mul-le-mul {n₂ = 1000000000} {m₂ = 1500000} h (omega arith) in
+    omega (arith, down-low (r * (million + w)) million)
+
+-- the low bound is never 0
+pub low-pos : (r w : ℕ) → 1 ≤ r → w ≤ 500000 → 1 ≤ lowBound r w
+unfolding lowBound
+low-pos r w h g =
+    let p : 1 * 500000 ≤ r * (million - w) = mul-le-mul {n₁ = 1} {m₁ = 500000} {n₂ = r} {m₂ = million - w} h (omega arith) in
+    omega (arith, up-low (r * (million - w)) million million-pos)
+
+-- ---- bid: the auction's prices
+
+-- a price lies within the bounds
+pub price-within : (x : Side) (hi lo k len : ℕ) → lo ≤ hi → 0 < len → k ≤ len → (lo ≤ auctionPrice x hi lo k len) × (auctionPrice x hi lo k len ≤ hi)
+unfolding auctionPrice
+price-within Buy hi lo k len b h g = (omega arith, omega (arith, part-down-le (hi - lo) k len h g))
+price-within Sell hi lo k len b h g = (omega (arith, part-down-le (hi - lo) k len h g), omega arith)
+
+-- at the last block the sells' price is lo, and the buys' hi
+pub price-ends : (hi lo len : ℕ) → lo ≤ hi → 0 < len → (auctionPrice Sell hi lo len len ≡ lo) × (auctionPrice Buy hi lo len len ≡ hi)
+unfolding auctionPrice
+price-ends hi lo len b h = let e = whole-down (hi - lo) len h in (omega (arith, e), omega (arith, e))
+
+-- at the first block the sells' price is hi, and the buys' lo
+pub price-starts : (hi lo len : ℕ) → (auctionPrice Sell hi lo 0 len ≡ hi) × (auctionPrice Buy hi lo 0 len ≡ lo)
+unfolding auctionPrice
+price-starts hi lo len = let e : down ((hi - lo) * 0) len ≡ 0 = rw mul-zero (down-none len) in (omega (arith, e), omega (arith, e))
+
+-- the sells' price is lo at the last block only
+pub sell-low-only-at-end : (hi lo k len : ℕ) → lo < hi → 0 < len → k ≤ len → auctionPrice Sell hi lo k len ≡ lo → k ≡ len
+unfolding auctionPrice
+sell-low-only-at-end hi lo k len b h g e =
+    let d : ℕ = hi - lo in
+    let whole : down (d * k) len ≡ d = omega (arith, part-down-le d k len h g) in
+    let low : d * len ≤ d * k = omega (arith, rw whole at (down-low (d * k) len)) in
+    le-antisymm g (le-of-mul-le-mul-left low (omega arith))
+
+-- from a to b as a side's price moves: the buys' rises, the sells' falls
+abbrev pub Moves : Side → ℕ → ℕ → Type 0
+Moves Buy a b = a ≤ b
+Moves Sell a b = b ≤ a
+
+-- the distance gone grows with the blocks
+step-grows : (d j k len : ℕ) → 0 < len → j ≤ k → down (d * j) len ≤ down (d * k) len
+step-grows d j k len h g = down-mono (d * j) (d * k) len h (mul-le-mul-left d g)
+
+-- the buys' price does not fall, and the sells' does not rise
+pub price-moves : (x : Side) (hi lo j k len : ℕ) → 0 < len → j ≤ k → Moves x (auctionPrice x hi lo j len) (auctionPrice x hi lo k len)
+unfolding auctionPrice
+price-moves Buy hi lo j k len h g = omega (arith, step-grows (hi - lo) j k len h g)
+price-moves Sell hi lo j k len h g = omega (arith, step-grows (hi - lo) j k len h g)
