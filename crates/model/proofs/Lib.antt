@@ -12,3 +12,5 @@ pub mod Bid
 pub mod Settle
 pub mod Claim
 pub mod WholeRun
+pub mod Codes
+pub mod Reach

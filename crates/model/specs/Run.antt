@@ -1,5 +1,6 @@
 -- One step, a request, a run over a list, and the states that calls can leave.
 use Prim.Native.Nat.{ℕ}
+use mathlib.Core.Path.{_≡_}
 use mathlib.Core.Bool.{cond}
 use mathlib.Core.List.{List, [], _∷_}
 use lib.Dec.{ltb}
@@ -65,3 +66,10 @@ stateAfter f x (q ∷ qs) = stateAfter f (f x q .exchange) qs
 pub data Reachable : Exchange → Type 0 where
   at-first : Reachable freshExchange
   after-call : {x : Exchange} → Reachable x → (c : Call) → Reachable (stepOf x c .exchange)
+
+-- the states that lists of requests leave are the same
+abbrev pub LeftByRequests : Exchange → Type 0
+LeftByRequests x = (qs : List Request) × (stateAfter requestOf freshExchange qs ≡ x)
+
+abbrev pub ReachableIsRun : Type 0
+ReachableIsRun = (x : Exchange) → (Reachable x → LeftByRequests x) × (LeftByRequests x → Reachable x)
