@@ -5,9 +5,9 @@ use mathlib.Core.Path.{_∙_, _≡_, ap, refl, subst, subst₂, sym}
 use native.Mathlib.Omega.{arith}
 use lib.Dec.{eqb, ltb}
 use borrow.Author.Tests.{eqb-false, ltb-false, not-false}
-use Rattle.model.specs.Calls.{bidDone, bidQuote, bidRound, bidTests, gives, notAvailable, takes}
-use Rattle.model.specs.History.{Current, G, History, P, RoundLog, T, auctioning, cameIn, holds, isWaiting, logOf, put, running, wentOut, whenSame, withAccepted, withBid, withEvent, withRound}
-use Rattle.model.specs.Sides.{offered, other, sideOf, wanted}
+use Rattle.model.specs.Calls.{bidDone, bidQuote, bidRound, bidTests, notAvailable}
+use Rattle.model.specs.History.{Current, G, History, P, RoundLog, T, addedTo, auctioning, cameIn, holds, isWaiting, logOf, put, running, wentOut, whenSame, withAccepted, withBid, withCredit, withDebit, withEvent, withRound}
+use Rattle.model.specs.Sides.{gives, offered, other, sideOf, takes, wanted}
 use Rattle.model.specs.State.{balance, credit, debit, isAuction, isClosed, phase, residue, roundIn, supply, totalsOf, withBlock, withPhase}
 use Rattle.model.specs.WholeRun.{balances, currentHolds, holdsOf, resting, roundsTotal}
 use Rattle.model.specs.declared.state.Exchange.{Exchange}
@@ -21,7 +21,7 @@ use Rattle.units.specs.Sums.{only}
 use Rattle.ledger.proofs.Laws.{credited-total, debited-total}
 use Rattle.model.proofs.Frames.{inside, markets-set, offered-lt, offered-split, places-round, wanted-lt, wanted-split}
 use Rattle.model.proofs.Inv.{Inv, MarketOk, PartOk, RoundOk, atWork, auction-is, changed-at, heldIn, partIn, running-is}
-use Rattle.model.proofs.Reading.{Sized, inRounds-set, put-same, sized-block, sized-credit, sized-debit, sized-phase}
+use Rattle.model.proofs.Reading.{Sized, account-credit, account-debit, inRounds-set, put-same, sized-block, sized-credit, sized-debit, sized-phase}
 use Rattle.model.proofs.Rounds.{held-within, part-early, went-zero}
 use Rattle.pricing.proofs.Limits.{Rate, rate-add, rate-bid-buy, rate-bid-sell, rate-none}
 use Rattle.pricing.proofs.Prices.{price-within}
@@ -282,7 +282,16 @@ module _ (h : Exchange) (y : History) (i : Inv h y) (mk m at n q : ℕ) (x : Sid
         small-got = small1;
       }
 
-  bids : Inv (withBlock (withPhase h2 mk (Auction r1)) at) (withRound y mk (running b1))
+  -- history's account of the maker
+  abbrev y2 : Current → History
+  y2 v = withCredit (withDebit (withRound y mk v) m (wanted x mk) (gives x n q)) m (offered x mk) (takes x n q)
+
+  accounts2 : (j : ℕ) → j < 16 → (u : ℕ) → u < 4 → balance h2 j u + y2 (running b1) .debits j u ≡ y2 (running b1) .credits j u
+  accounts2 =
+      account-credit (h1 .ledger) (y .credits) (addedTo (y .debits) m (wanted x mk) (gives x n q)) (sized1 .shaped) m (offered x mk) (takes x n q) hm (offered-lt x mk lt4)
+      (account-debit (h .ledger) (y .credits) (y .debits) (i .sized .shaped) m (wanted x mk) (gives x n q) hm (wanted-lt x mk lt4) (i .accounts) funds)
+
+  bids : Inv (withBlock (withPhase h2 mk (Auction r1)) at) (y2 (running b1))
   bids =
       record {
         sized = sized-block (withPhase h2 mk (Auction r1)) at (sized-phase h2 mk (Auction r1) sized2);
@@ -295,6 +304,7 @@ module _ (h : Exchange) (y : History) (i : Inv h y) (mk m at n q : ℕ) (x : Sid
         conserved = conserved1;
         supplied = i .supplied;
         bounded = i .bounded;
+        accounts = accounts2;
         residue-is = i .residue-is;
         ended-well = i .ended-well;
         limits = i .limits;
@@ -317,7 +327,7 @@ bid-keeps h y mk m at sd n bound i p =
     let lt4 : mk < 4 = omega arith in
     let er : y .rounds mk ≡ running (logOf (y .rounds mk)) = running-is (phase h mk) (y .rounds mk) (ap isClosed ep) (i .markets mk pos lt4) in
     let b : RoundLog = logOf (y .rounds mk) in
-    subst (λ (c : Current). Inv (bidDone h mk m at sd n .exchange) (withRound y mk c))
+    subst (λ (c : Current). Inv (bidDone h mk m at sd n .exchange) (withCredit (withDebit (withRound y mk c) m (wanted x mk) (gives x n q)) m (offered x mk) (takes x n q)))
     (sym (changed-at auctioning (λ b. withBid b x n q) (y .rounds mk) b er (subst₂ MarketOk ep er (i .markets mk pos lt4) .stage)))
     (bids h y i mk m at n q x pos lt4 (omega arith) r b ep er
     (λ g. bid-ok x r b n (at - r .start .0) g (omega arith) (omega arith) (p .1 .1 .1 .1 .1 .1 .1 .0)) hb)

@@ -8,10 +8,10 @@ use lib.Dec.{eqb}
 use lib.ListN.{length}
 use borrow.Author.Tests.{eq-eqb, eqb-true, ltb-false, ne-eqb, not-false}
 use Rattle.model.specs.Calls.{claimDone, claimTests, claimWith, claimedRound, payingOrClosed}
-use Rattle.model.specs.History.{Current, G, History, P, Part, PlacedOrder, RoundLog, T, absent, cameIn, claimed, claimedAs, endOrRound, holds, idle, isTicket, isWaiting, logOf, movedOut, offerOn, placedOr, put, running, settled, ticketCount, waiting, waitingCount, wentOut, whenSame, withAccepted, withClaim, withEnd, withEvent, withOrder, withPart, withPayout, withRound}
+use Rattle.model.specs.History.{Current, G, History, P, Part, PlacedOrder, RoundLog, T, absent, cameIn, claimed, claimedAs, endOrRound, holds, idle, isTicket, isWaiting, logOf, movedOut, offerOn, placedOr, put, running, settled, ticketCount, waiting, waitingCount, wentOut, whenSame, withAccepted, withClaim, withCredit, withEnd, withEvent, withOrder, withPart, withPayout, withRound}
 use Rattle.model.specs.Sides.{offered, wanted}
 use Rattle.model.specs.State.{balance, credit, isClosed, isEntered, isPaying, orderIn, phase, residue, restingOr, roundIn, ticket, toResidue, totalsOf, withPhase, withTicket}
-use Rattle.model.specs.WholeRun.{All, LimitKept, PaysOut, balances, cons, currentHolds, holdsOf, inRounds, putBy, resting, restingIn, roundsTotal}
+use Rattle.model.specs.WholeRun.{All, LimitKept, PaysOut, balances, cons, currentHolds, holdsOf, inRounds, placedIn, putBy, resting, restingIn, roundsTotal}
 use Rattle.model.specs.declared.state.Exchange.{Exchange}
 use Rattle.model.specs.declared.state.Order.{Order}
 use Rattle.model.specs.declared.state.Phase.the-variants.{Closed, Paying}
@@ -25,8 +25,8 @@ use Rattle.ticket_set.specs.TicketSet.{bit, countOf, removed}
 use Rattle.units.specs.Sums.{only, sumOver}
 use Rattle.ledger.proofs.Laws.{credited-balance, credited-other, credited-total}
 use Rattle.model.proofs.Frames.{markets-set, orders-set, places-part, tickets-set, wanted-lt}
-use Rattle.model.proofs.Inv.{ClaimedOk, Inv, MarketOk, OrderOk, PartOk, RoundOk, TicketOk, WaitingOk, atWork, ended-at, entered-is, heldIn, partIn, paying-is, placedOf, running-is, saysIn}
-use Rattle.model.proofs.Reading.{Sized, fewer-of, inRounds-set, put-each, put-same, residue-plus, resting-set, sized-credit, sized-phase, sized-residue, sized-ticket, ticket-other, ticket-same}
+use Rattle.model.proofs.Inv.{ClaimedOk, Inv, MarketOk, OrderOk, PartOk, RoundOk, TicketOk, WaitingOk, atWork, ended-at, entered-is, heldIn, partIn, paying-is, running-is, saysIn}
+use Rattle.model.proofs.Reading.{Sized, account-credit, fewer-of, inRounds-set, put-each, put-same, residue-plus, resting-set, sized-credit, sized-phase, sized-residue, sized-ticket, ticket-other, ticket-same}
 use Rattle.model.proofs.Rounds.{G-part, P-part, T-part, cameIn-part, covers, leaves, marks-count, marks-part, none-waiting, over-work, wentOut-part}
 use Rattle.pricing.proofs.Limits.{limit-kept}
 use Rattle.pricing.proofs.Shares.{paid-le-offer}
@@ -50,7 +50,7 @@ says-resting : (o : Order) (rest n : ℕ) → saysIn (restingOr o rest) n ≡ ab
 says-resting o zero n = refl
 says-resting o (suc rest) n = refl
 
-placed-resting : (o : Order) (rest : ℕ) → placedOr (o .member) (o .market) (o .side) (o .limit .0) rest ≡ placedOf (restingOr o rest)
+placed-resting : (o : Order) (rest : ℕ) → placedOr (o .member) (o .market) (o .side) (o .limit .0) rest ≡ placedIn (restingOr o rest)
 placed-resting o zero = refl
 placed-resting o (suc rest) = refl
 
@@ -234,7 +234,10 @@ module _ (h : Exchange) (y : History) (i : Inv h y) (k : ℕ) (hk : k < 64) (o :
   h2 = credit h1 (o .member) (wanted side mk) got
 
   abbrev y2 : History
-  y2 = withOrder (withPayout y (record { side = side; limit = lim; s = s; got = got })) k (placedOr (o .member) mk side lim rest)
+  y2 =
+      withCredit
+      (withOrder (withPayout y (record { side = side; limit = lim; s = s; got = got })) k (placedOr (o .member) mk side lim rest))
+      (o .member) (wanted side mk) got
 
   sized1 : Sized h1
   sized1 = sized-ticket h k (restingOr o rest) (i .sized)
@@ -248,7 +251,7 @@ module _ (h : Exchange) (y : History) (i : Inv h y) (k : ℕ) (hk : k < 64) (o :
   tickets2 : (j : ℕ) → j < 64 → TicketOk (ticket h2 j)
   tickets2 = tickets-set h k (restingOr o rest) kl (ok-resting o rest oOk) (i .tickets)
 
-  orders2 : (j : ℕ) → j < 64 → y2 .orders j ≡ placedOf (ticket h2 j)
+  orders2 : (j : ℕ) → j < 64 → y2 .orders j ≡ placedIn (ticket h2 j)
   orders2 = orders-set h k (restingOr o rest) kl (y .orders) (placedOr (o .member) mk side lim rest) (placed-resting o rest) (i .orders)
 
   -- places, whatever the market's round becomes, if its parts are at work as b1's are
@@ -259,6 +262,10 @@ module _ (h : Exchange) (y : History) (i : Inv h y) (k : ℕ) (hk : k < 64) (o :
       (sym (says-resting o rest mk))
       (λ a d. ap (λ t. saysIn t a) et ∙ ap (λ (q : Bool). cond q (waiting (o .member) side lim n) absent) (ne-eqb a mk d) ∙ sym (says-resting o rest a))
       (i .places)
+
+  accounts2 : (j : ℕ) → j < 16 → (u : ℕ) → u < 4 → balance h2 j u + y2 .debits j u ≡ y2 .credits j u
+  accounts2 =
+      account-credit (h .ledger) (y .credits) (y .debits) (i .sized .shaped) (o .member) (wanted side mk) got (oOk .member) (wanted-lt side mk (oOk .market-high)) (i .accounts)
 
   market-in : mk ≤ length (h .markets)
   market-in = omega (arith, i .sized .markets, oOk .market-high)
@@ -321,6 +328,7 @@ module _ (h : Exchange) (y : History) (i : Inv h y) (k : ℕ) (hk : k < 64) (o :
         conserved = λ u hu. omega (arith, grown u, rounds2 (running b1) u, holdsOf-b u, i .conserved u hu);
         supplied = i .supplied;
         bounded = i .bounded;
+        accounts = accounts2;
         residue-is = i .residue-is;
         ended-well = i .ended-well;
         limits = limits2;
@@ -372,6 +380,7 @@ module _ (h : Exchange) (y : History) (i : Inv h y) (k : ℕ) (hk : k < 64) (o :
         conserved = λ u hu. omega (arith, grown u, rounds2 idle u, holdsOf-b u, residue4 u, i .conserved u hu);
         supplied = i .supplied;
         bounded = i .bounded;
+        accounts = accounts2;
         residue-is = into;
         ended-well =
             cons
@@ -394,7 +403,7 @@ module _ (h : Exchange) (y : History) (i : Inv h y) (k : ℕ) (hk : k < 64) (o :
       go false e = rw (marks-count (r1 .tickets) b1 marks1, e) goes-on
 
   -- history's own terms: the log of the market's round, and the part that was waiting there
-  claim-ends : Inv (claimWith h k o r .exchange) (withClaim y k (placedOf (Entered o)) s got)
+  claim-ends : Inv (claimWith h k o r .exchange) (withClaim y k (placedIn (Entered o)) s got)
   claim-ends =
       subst (λ (v : History). Inv (payingOrClosed h2 mk r1) v)
       (sym (ended-at settled (λ b. withPart b k (claimedAs (b .part k) s got)) y2 mk (y .rounds mk) b er (rOk .stage)))
@@ -441,7 +450,7 @@ claim-keeps h y k i p =
     let ok : OrderOk o = subst TicketOk et (i .tickets k hk) in
     let er : y .rounds (o .market) ≡ running (logOf (y .rounds (o .market))) =
     running-is (phase h (o .market)) (y .rounds (o .market)) (ap isClosed ep) (i .markets (o .market) (ok .market-low) (ok .market-high)) in
-    let ey : y .orders k ≡ placedOf (Entered o) = i .orders k hk ∙ ap placedOf et in
+    let ey : y .orders k ≡ placedIn (Entered o) = i .orders k hk ∙ ap placedIn et in
     subst
     (λ (v : PlacedOrder).
     Inv (claimDone h k .exchange)

@@ -9,7 +9,7 @@ use Rattle.model.specs.Calls.{enterDone, enterTests, enteredRound}
 use Rattle.model.specs.History.{Current, G, History, P, Part, PlacedOrder, RoundLog, T, absent, cameIn, collecting, given, holds, logOf, movedOut, offerOn, put, running, taken, traded, waiting, wentOut, whenSame, withAccepted, withEnter, withEvent, withPart, withRound}
 use Rattle.model.specs.Sides.{offered, other}
 use Rattle.model.specs.State.{isClosed, isCollect, orderIn, phase, residue, roundIn, supply, ticket, totalsOf, withPhase, withTicket}
-use Rattle.model.specs.WholeRun.{balances, currentHolds, holdsOf, resting, restingIn, roundsTotal}
+use Rattle.model.specs.WholeRun.{balances, currentHolds, holdsOf, placedIn, resting, restingIn, roundsTotal}
 use Rattle.model.specs.declared.state.Exchange.{Exchange}
 use Rattle.model.specs.declared.state.Order.{Order}
 use Rattle.model.specs.declared.state.Phase.the-variants.{Collect}
@@ -23,7 +23,7 @@ use Rattle.ticket_set.specs.TicketSet.{inserted}
 use Rattle.units.specs.Counts.{largest}
 use Rattle.units.specs.Sums.{only}
 use Rattle.model.proofs.Frames.{each-ticket, markets-set, offered-lt, offered-split, places-part, tickets-set}
-use Rattle.model.proofs.Inv.{Inv, MarketOk, OrderOk, PartOk, Quiet, RoundOk, TicketOk, atWork, changed-at, collect-is, heldIn, partIn, placedOf, resting-is, running-is, saysIn}
+use Rattle.model.proofs.Inv.{Inv, MarketOk, OrderOk, PartOk, Quiet, RoundOk, TicketOk, atWork, changed-at, collect-is, heldIn, partIn, resting-is, running-is, saysIn}
 use Rattle.model.proofs.Reading.{Sized, inRounds-set, put-each, put-same, resting-set, sized-phase, sized-ticket}
 use Rattle.model.proofs.Rounds.{G-part, P-part, T-part, absent-is, cameIn-part, held-within, marks-part, part-early, went-zero, wentOut-part}
 use Rattle.ticket_set.proofs.Bits.{bit-inserted-other, bit-inserted-same, inserted-lt}
@@ -212,7 +212,7 @@ module _ (h : Exchange) (y : History) (i : Inv h y) (k : ℕ) (hk : k < 64) (o :
         tickets = tickets-set h1 k (Entered o) kl oOk (i .tickets);
         orders =
             λ j hj. i .orders j hj
-            ∙ sym (each-ticket h1 k (Entered o) kl (λ a t. placedOf t ≡ placedOf (ticket h a)) (sym (ap placedOf et)) j (λ d. refl));
+            ∙ sym (each-ticket h1 k (Entered o) kl (λ a t. placedIn t ≡ placedIn (ticket h a)) (sym (ap placedIn et)) j (λ d. refl));
         places =
             places-part h1 k (Entered o) kl (y .rounds) mk b q1 (running b1) er (oOk .market-low) (oOk .market-high) (λ j hj. refl)
             (sym (ap (λ (v : Bool). cond v q1 absent) (eq-eqb mk mk refl)))
@@ -222,6 +222,7 @@ module _ (h : Exchange) (y : History) (i : Inv h y) (k : ℕ) (hk : k < 64) (o :
         conserved = conserved1;
         supplied = i .supplied;
         bounded = i .bounded;
+        accounts = i .accounts;
         residue-is = i .residue-is;
         ended-well = i .ended-well;
         limits = i .limits;
@@ -239,7 +240,7 @@ enter-keeps h y k i p =
     let ok : OrderOk o = subst TicketOk et (i .tickets k hk) in
     let er : y .rounds (o .market) ≡ running (logOf (y .rounds (o .market))) =
     running-is (phase h (o .market)) (y .rounds (o .market)) (ap isClosed ep) (i .markets (o .market) (ok .market-low) (ok .market-high)) in
-    let ey : y .orders k ≡ placedOf (Resting o) = i .orders k hk ∙ ap placedOf et in
+    let ey : y .orders k ≡ placedIn (Resting o) = i .orders k hk ∙ ap placedIn et in
     let w = p .1 .1 .1 .1 .0 in
     let b : RoundLog = logOf (y .rounds (o .market)) in
     subst (λ (v : PlacedOrder). Inv (enterDone h k .exchange) (withEnter y k v)) (sym ey)

@@ -11,13 +11,14 @@ use Rattle.model.specs.Calls.{outside}
 use Rattle.model.specs.History.{Current, Part, PlacedOrder, RoundLog, put, running, whenSame}
 use Rattle.model.specs.Sides.{offered, other, wanted}
 use Rattle.model.specs.State.{phase, ticket, withPhase, withTicket}
+use Rattle.model.specs.WholeRun.{placedIn}
 use Rattle.model.specs.declared.state.Exchange.{Exchange}
 use Rattle.model.specs.declared.state.Phase.{Phase}
 use Rattle.model.specs.declared.state.TicketState.{TicketState}
 use Rattle.pricing.specs.declared.Side.{Side}
 use Rattle.pricing.specs.declared.Side.the-variants.{Buy, Sell}
 use Rattle.units.specs.Sums.{only}
-use Rattle.model.proofs.Inv.{MarketOk, TicketOk, atWork, partIn, placedOf, saysIn}
+use Rattle.model.proofs.Inv.{MarketOk, TicketOk, atWork, partIn, saysIn}
 use Rattle.model.proofs.Reading.{phase-other, phase-same, put-each, put-other, put-same, ticket-other, ticket-same}
 use Rattle.units.proofs.Decide.{or-false}
 use Rattle.units.proofs.Sums.{only-zero}
@@ -62,12 +63,12 @@ module _ (g : Exchange) (k : ℕ) (s : TicketState) (hk : k < length (g .tickets
   pub tickets-set : TicketOk s → ((j : ℕ) → j < 64 → TicketOk (ticket g j)) → (j : ℕ) → j < 64 → TicketOk (ticket (withTicket g k s) j)
   tickets-set ok all j hj = each-ticket (λ a t. TicketOk t) ok j (λ d. all j hj)
 
-  pub orders-set : (f : ℕ → PlacedOrder) (v : PlacedOrder) → v ≡ placedOf s → ((j : ℕ) → j < 64 → f j ≡ placedOf (ticket g j))
-      → (j : ℕ) → j < 64 → put f k v j ≡ placedOf (ticket (withTicket g k s) j)
+  pub orders-set : (f : ℕ → PlacedOrder) (v : PlacedOrder) → v ≡ placedIn s → ((j : ℕ) → j < 64 → f j ≡ placedIn (ticket g j))
+      → (j : ℕ) → j < 64 → put f k v j ≡ placedIn (ticket (withTicket g k s) j)
   orders-set f v e all j hj =
-      put-each (λ a w. w ≡ placedOf (ticket (withTicket g k s) a)) f k v j
-      (λ q. e ∙ ap placedOf (sym (ticket-same g k s hk)))
-      (λ d. all j hj ∙ ap placedOf (sym (ticket-other g k s j d)))
+      put-each (λ a w. w ≡ placedIn (ticket (withTicket g k s) a)) f k v j
+      (λ q. e ∙ ap placedIn (sym (ticket-same g k s hk)))
+      (λ d. all j hj ∙ ap placedIn (sym (ticket-other g k s j d)))
 
   -- a ticket that stays out of rounds leaves every place as it was
   pub places-set : (f : ℕ → Current) → ((a : ℕ) → saysIn s a ≡ saysIn (ticket g k) a)

@@ -12,7 +12,7 @@ use Rattle.units.specs.Counts.{largest}
 use Rattle.units.specs.Sums.{only}
 use Rattle.ledger.proofs.Laws.{balance-le-total, credited-total, debited-total}
 use Rattle.model.proofs.Inv.{Inv}
-use Rattle.model.proofs.Reading.{put-only, sized-credit, sized-debit, sized-supply, supply-minus, supply-plus}
+use Rattle.model.proofs.Reading.{account-credit, account-debit, put-only, sized-credit, sized-debit, sized-supply, supply-minus, supply-plus}
 use Rattle.units.proofs.Decide.{Passed}
 use Rattle.units.proofs.Sums.{only-other, only-same}
 use Rattle.model.specs.declared.call.Call.the-variants as Call
@@ -41,6 +41,7 @@ deposit-keeps h y m t n a b i p =
       markets = i .markets;
       conserved = λ u hu. omega (arith, credited-total (h .ledger) m t n (i .sized .shaped) (omega arith) (omega arith) u, zs u, i .conserved u hu);
       supplied = λ u hu. omega (arith, zs u, put-only (y .deposited) t n u, i .supplied u hu);
+      accounts = account-credit (h .ledger) (y .credits) (y .debits) (i .sized .shaped) m t n (omega arith) (omega arith) (i .accounts);
       bounded = λ u hu. omega (arith, zs u, only-le (supply h) t n largest u hs (i .bounded u hu));
       residue-is = i .residue-is;
       ended-well = i .ended-well;
@@ -65,6 +66,7 @@ withdraw-keeps h y m t n a b i p =
       markets = i .markets;
       conserved = λ u hu. omega (arith, debited-total (h .ledger) m t n (i .sized .shaped) (omega arith) (omega arith) hn u, zs u, i .conserved u hu);
       supplied = λ u hu. omega (arith, zs u, put-only (y .withdrawn) t n u, i .supplied u hu);
+      accounts = account-debit (h .ledger) (y .credits) (y .debits) (i .sized .shaped) m t n (omega arith) (omega arith) (i .accounts) hn;
       bounded = λ u hu. omega (arith, zs u, i .bounded u hu);
       residue-is = i .residue-is;
       ended-well = i .ended-well;

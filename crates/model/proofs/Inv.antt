@@ -4,9 +4,9 @@ use mathlib.Core.Bool.{cond, false, true}
 use mathlib.Core.Path.{_∙_, _≡_, ap, refl}
 use native.Mathlib.Omega.{arith}
 use lib.Dec.{eqb}
-use Rattle.model.specs.History.{Current, G, History, P, Part, PlacedOrder, RoundLog, Stage, T, absent, auctioning, cameIn, changedAt, claimed, collecting, endOrRound, endedAt, given, idle, isWaiting, logOf, no-order, placed, running, sameStage, settled, taken, traded, waiting, wentOut}
-use Rattle.model.specs.State.{isAuction, isClosed, isCollect, isEntered, isFree, isPaying, orderIn, phase, residue, roundIn, supply, ticket, totalsOf}
-use Rattle.model.specs.WholeRun.{All, EndedWell, LimitKept, balances, inRounds, putBy, resting}
+use Rattle.model.specs.History.{Current, G, History, P, Part, RoundLog, Stage, T, absent, auctioning, cameIn, changedAt, claimed, collecting, endOrRound, endedAt, given, idle, isWaiting, logOf, running, sameStage, settled, taken, traded, waiting, wentOut}
+use Rattle.model.specs.State.{balance, isAuction, isClosed, isCollect, isEntered, isFree, isPaying, orderIn, phase, residue, roundIn, supply, ticket, totalsOf}
+use Rattle.model.specs.WholeRun.{All, EndedWell, LimitKept, balances, inRounds, placedIn, putBy, resting}
 use Rattle.model.specs.declared.state.Exchange.{Exchange}
 use Rattle.model.specs.declared.state.Order.{Order}
 use Rattle.model.specs.declared.state.Phase.{Phase}
@@ -24,12 +24,6 @@ use Rattle.model.proofs.Reading.{Sized}
 use Rattle.pricing.proofs.Limits.{Rate}
 
 -- ---- tickets
-
--- what history says of a ticket in this state
-abbrev pub placedOf : TicketState → PlacedOrder
-placedOf Free = no-order
-placedOf (Resting o) = placed (o .member) (o .market) (o .side) (o .limit .0) (o .offer .0)
-placedOf (Entered o) = placed (o .member) (o .market) (o .side) (o .limit .0) (o .offer .0)
 
 -- the part that a ticket in this state waits with in market n's round
 abbrev pub saysIn : TicketState → ℕ → Part
@@ -133,12 +127,13 @@ MarketOk (Paying r) (running b) = RoundOk settled r b
 pub record Inv (h : Exchange) (y : History) : Type 0 where
   pub sized : Sized h
   pub tickets : (k : ℕ) → k < 64 → TicketOk (ticket h k)
-  pub orders : (k : ℕ) → k < 64 → y .orders k ≡ placedOf (ticket h k)
+  pub orders : (k : ℕ) → k < 64 → y .orders k ≡ placedIn (ticket h k)
   pub places : (k : ℕ) → k < 64 → (n : ℕ) → 0 < n → n < 4 → atWork (partIn (y .rounds n) k) ≡ saysIn (ticket h k) n
   pub markets : (n : ℕ) → 0 < n → n < 4 → MarketOk (phase h n) (y .rounds n)
   pub conserved : (t : ℕ) → t < 4 → balances h t + resting h t + inRounds y t + residue h t ≡ supply h t
   pub supplied : (t : ℕ) → t < 4 → supply h t + y .withdrawn t ≡ y .deposited t
   pub bounded : (t : ℕ) → t < 4 → supply h t ≤ largest
+  pub accounts : (m : ℕ) → m < 16 → (t : ℕ) → t < 4 → balance h m t + y .debits m t ≡ y .credits m t
   pub residue-is : (t : ℕ) → t < 4 → residue h t ≡ sumOver (putBy t) (y .ended)
   pub ended-well : All EndedWell (y .ended)
   pub limits : All LimitKept (y .payouts)

@@ -11,6 +11,6 @@ pub mod Match
 pub mod Bid
 pub mod Settle
 pub mod Claim
-pub mod WholeRun
 pub mod Codes
+pub mod WholeRun
 pub mod Reach

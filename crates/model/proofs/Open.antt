@@ -151,6 +151,7 @@ open-keeps h y mk at r w len i p =
           λ u hu. omega (arith, inRounds-set y mk (running emptyLog) pos lt4 u, holdsOf-empty mk u, ap (λ (c : Current). currentHolds mk c u) er, i .conserved u hu);
       supplied = i .supplied;
       bounded = i .bounded;
+      accounts = i .accounts;
       residue-is = i .residue-is;
       ended-well = i .ended-well;
       limits = i .limits;

@@ -1,15 +1,15 @@
 -- Order and cancel keep the invariant.
 use Prim.Native.Nat.{_<_, _≤_, ℕ}
 use mathlib.Core.Bool.{false, not}
-use mathlib.Core.Path.{_≡_, ap, refl, subst, sym}
+use mathlib.Core.Path.{_∙_, _≡_, ap, refl, subst, sym}
 use native.Mathlib.Omega.{arith}
 use lib.Dec.{eqb}
 use borrow.Author.Tests.{eqb-false, ltb-false, not-false}
 use Rattle.model.specs.Calls.{cancelDone, cancelTests, orderDone, orderTests, outside}
-use Rattle.model.specs.History.{History, no-order, placed, withAccepted, withEvent}
+use Rattle.model.specs.History.{History, PlacedOrder, no-order, placed, tokenIn, withAccepted, withCredit, withEvent, withOrder}
 use Rattle.model.specs.Sides.{offered, sideOf}
 use Rattle.model.specs.State.{balance, credit, debit, isFree, orderIn, ticket}
-use Rattle.model.specs.WholeRun.{restingIn}
+use Rattle.model.specs.WholeRun.{placedIn, restingIn}
 use Rattle.model.specs.declared.state.Exchange.{Exchange}
 use Rattle.model.specs.declared.state.Order.{Order}
 use Rattle.model.specs.declared.state.TicketState.the-variants.{Free, Resting}
@@ -18,7 +18,7 @@ use Rattle.units.specs.Sums.{only}
 use Rattle.ledger.proofs.Laws.{credited-total, debited-total}
 use Rattle.model.proofs.Frames.{inside, offered-lt, orders-set, places-set, tickets-set}
 use Rattle.model.proofs.Inv.{Inv, OrderOk, TicketOk, free-is, resting-is, saysIn}
-use Rattle.model.proofs.Reading.{Sized, resting-set, sized-credit, sized-debit, sized-ticket}
+use Rattle.model.proofs.Reading.{Sized, account-credit, account-debit, resting-set, sized-credit, sized-debit, sized-ticket}
 use Rattle.units.proofs.Decide.{Passed, or-false}
 use Rattle.model.specs.declared.call.Call.the-variants as Call
 
@@ -57,6 +57,7 @@ order-keeps h y k m mk sd lim n i p =
           );
       supplied = i .supplied;
       bounded = i .bounded;
+      accounts = account-debit (h .ledger) (y .credits) (y .debits) (i .sized .shaped) m tok n (omega arith) (offered-lt (sideOf sd) mk (omega arith)) (i .accounts) hb;
       residue-is = i .residue-is;
       ended-well = i .ended-well;
       limits = i .limits;
@@ -76,7 +77,9 @@ cancel-keeps h y k m i p =
     let h1 : Exchange = credit h m tok (o .offer .0) in
     let z1 : Sized h1 = sized-credit h m tok (o .offer .0) (i .sized) in
     let er : (u : ℕ) → restingIn (ticket h k) u ≡ only tok (o .offer .0) u = λ u. ap (λ t. restingIn t u) et in
-    record {
+    let ey : y .orders k ≡ placedIn (Resting o) = i .orders k lk ∙ ap placedIn et in
+    subst (λ (v : PlacedOrder). Inv (cancelDone h k m .exchange) (withCredit (withOrder y k no-order) m (tokenIn v) (o .offer .0))) (sym ey)
+    (record {
       sized = sized-ticket h1 k Free z1;
       tickets = tickets-set h1 k Free (omega (arith, z1 .tickets)) tt (i .tickets);
       orders = orders-set h1 k Free (omega (arith, z1 .tickets)) (y .orders) no-order refl (i .orders);
@@ -92,7 +95,8 @@ cancel-keeps h y k m i p =
           );
       supplied = i .supplied;
       bounded = i .bounded;
+      accounts = account-credit (h .ledger) (y .credits) (y .debits) (i .sized .shaped) m tok (o .offer .0) (omega arith) (offered-lt (o .side) (o .market) (ok .market-high)) (i .accounts);
       residue-is = i .residue-is;
       ended-well = i .ended-well;
       limits = i .limits;
-    }
+    })

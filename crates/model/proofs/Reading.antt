@@ -7,9 +7,9 @@ use native.Mathlib.Omega.{arith}
 use lib.ListN.{getD, length, length-set, set}
 use lib.Seq.{getD-set-other, getD-set-same}
 use borrow.Author.Tests.{eq-eqb, ne-eqb}
-use Rattle.ledger.specs.Balances.{Shaped, credited, debited}
+use Rattle.ledger.specs.Balances.{Shaped, balanceIn, credited, debited}
 use Rattle.ledger.specs.declared.Ledger.{Ledger}
-use Rattle.model.specs.History.{Current, History, RoundLog, holds, put, withRound}
+use Rattle.model.specs.History.{Current, History, RoundLog, addedTo, holds, put, withRound}
 use Rattle.model.specs.State.{closedMarket, credit, debit, freeTicket, marketAt, phase, residue, setMarket, supply, ticket, toResidue, withBlock, withLedger, withPhase, withResidue, withSupply, withTicket}
 use Rattle.model.specs.WholeRun.{currentHolds, holdsOf, inRounds, resting, restingIn, restingTotal, roundsTotal}
 use Rattle.model.specs.declared.state.Exchange.{Exchange}
@@ -22,7 +22,7 @@ use Rattle.pricing.specs.declared.Side.the-variants.{Buy, Sell}
 use Rattle.units.specs.Counts.{amount}
 use Rattle.units.specs.Sums.{only, sumTo}
 use Rattle.units.specs.declared.Amount.{Amount}
-use Rattle.ledger.proofs.Laws.{credited-shaped, debited-shaped}
+use Rattle.ledger.proofs.Laws.{credited-balance, credited-other, credited-shaped, debited-balance, debited-other, debited-shaped}
 use Rattle.units.proofs.Sums.{only-add, only-other, only-same, sum-at}
 
 -- ---- a function with one value changed
@@ -51,6 +51,34 @@ put-only f t n u =
     put-each (λ i v. v ≡ f i + only t n i) f t (f t + n) u
     (λ e. rw (only-same t n))
     (λ d. omega (arith, only-other t n u d))
+
+-- an amount added for one member
+pub added-same : (f : ℕ → ℕ → ℕ) (m t n u : ℕ) → addedTo f m t n m u ≡ f m u + only t n u
+added-same f m t n u = ap (λ (g : ℕ → ℕ). g u) (put-same f m (put (f m) t (f m t + n))) ∙ put-only (f m) t n u
+
+pub added-other : (f : ℕ → ℕ → ℕ) (m t n j u : ℕ) → (j ≡ m → ⊥) → addedTo f m t n j u ≡ f j u
+added-other f m t n j u d = ap (λ (g : ℕ → ℕ). g u) (put-other f m (put (f m) t (f m t + n)) j d)
+
+-- a credit, and a debit that the balance covers, told to history as well, keep every member's account
+module _ (l : Ledger) (c d : ℕ → ℕ → ℕ) (z : Shaped l) (m t n : ℕ) (hm : m < 16) (ht : t < 4)
+  (kept : (j : ℕ) → j < 16 → (u : ℕ) → u < 4 → balanceIn l j u + d j u ≡ c j u) where
+  pub account-credit : (j : ℕ) → j < 16 → (u : ℕ) → u < 4 → balanceIn (credited l m t n) j u + d j u ≡ addedTo c m t n j u
+  account-credit j hj u hu = go (ℕ-discrete j m)
+    where
+      go : Dec (j ≡ m) → balanceIn (credited l m t n) j u + d j u ≡ addedTo c m t n j u
+      go (yes e) =
+          subst (λ (a : ℕ). balanceIn (credited l m t n) a u + d a u ≡ addedTo c m t n a u) (sym e)
+          (omega (arith, credited-balance l m t n z hm ht u, added-same c m t n u, kept m hm u hu))
+      go (no a) = omega (arith, credited-other l m t n j u a, added-other c m t n j u a, kept j hj u hu)
+
+  pub account-debit : n ≤ balanceIn l m t → (j : ℕ) → j < 16 → (u : ℕ) → u < 4 → balanceIn (debited l m t n) j u + addedTo d m t n j u ≡ c j u
+  account-debit le j hj u hu = go (ℕ-discrete j m)
+    where
+      go : Dec (j ≡ m) → balanceIn (debited l m t n) j u + addedTo d m t n j u ≡ c j u
+      go (yes e) =
+          subst (λ (a : ℕ). balanceIn (debited l m t n) a u + addedTo d m t n a u ≡ c a u) (sym e)
+          (omega (arith, debited-balance l m t n z hm ht le u, added-same d m t n u, kept m hm u hu))
+      go (no a) = omega (arith, debited-other l m t n j u a, added-other d m t n j u a, kept j hj u hu)
 
 -- per token, from per side: the quote and the base of a market are two tokens
 pub fewer-of : (mk : ℕ) (b : RoundLog) (n : ℕ) → 0 < mk → 0 < n → ((x : Side) → holds b x < n) → (t : ℕ) → holdsOf mk b t < n

@@ -93,6 +93,7 @@ module _ (h : Exchange) (y : History) (i : Inv h y) (mk at : ℕ) (pos : 0 < mk)
             λ u hu. omega (arith, inRounds-set y mk (running b1) pos lt4 u, holdsOf1 u, ap (λ (v : Current). currentHolds mk v u) er, i .conserved u hu);
         supplied = i .supplied;
         bounded = i .bounded;
+        accounts = i .accounts;
         residue-is = i .residue-is;
         ended-well = i .ended-well;
         limits = i .limits;
@@ -142,6 +143,7 @@ module _ (h : Exchange) (y : History) (i : Inv h y) (mk at : ℕ) (pos : 0 < mk)
               λ u hu. omega (arith, inRounds-set y mk idle pos lt4 u, holdsOf1 u, holdsOf-zero u, ap (λ (v : Current). currentHolds mk v u) er, i .conserved u hu);
           supplied = i .supplied;
           bounded = i .bounded;
+          accounts = i .accounts;
           residue-is = into;
           ended-well =
               cons

@@ -9,11 +9,12 @@ use lib.ListN.{getD, getD-replicate, length, replicate}
 use borrow.Author.Tests.{eqb-true, le-ltb}
 use Rattle.model.specs.Answers.{answerLine}
 use Rattle.model.specs.Calls.{bidDone, bidOf, bidTests, cancelDone, cancelOf, cancelTests, claimDone, claimOf, claimTests, claimWith, depositDone, depositOf, depositTests, enterDone, enterOf, enterTests, matchDone, matchOf, matchTests, openDone, openOf, openTests, orderDone, orderOf, orderTests, refuse, settleDone, settleOf, settleTests, withdrawDone, withdrawOf, withdrawTests}
+use Rattle.model.specs.Codes.{doneOf, testsOf}
 use Rattle.model.specs.History.{Current, G, History, P, Part, RoundLog, Stage, T, absent, historyFrom, historyOf, idle, noHistory, running, settled, waiting, withEvent}
 use Rattle.model.specs.Run.{Request, eventsOf, requestOf, stateAfter, stepOf}
 use Rattle.model.specs.State.{closedMarket, freeTicket, freshExchange, isEntered, isFree, isPaying, orderIn, phase, roundIn, ticket}
-use Rattle.model.specs.WholeRun.{Covered, PaysOut, SettledTicket, Whole, WholeRun, nil, orderWith, putBy, restingIn, restingTotal, roundsTotal}
-use Rattle.model.specs.declared.answer.Answer.the-variants.{Accepted}
+use Rattle.model.specs.WholeRun.{Covered, PaysOut, SettledTicket, Whole, WholeRun, nil, orderWith, placedIn, putBy, restingIn, restingTotal, roundsTotal}
+use Rattle.model.specs.declared.answer.Answer.the-variants.{Accepted, Refused}
 use Rattle.model.specs.declared.answer.Outcome.{Outcome}
 use Rattle.model.specs.declared.answer.Refusal.{Refusal}
 use Rattle.model.specs.declared.answer.Refusal.the-variants.{BufferTooShort}
@@ -33,12 +34,13 @@ use Rattle.units.specs.Counts.{amount}
 use Rattle.units.specs.Decide.{Test, decide}
 use Rattle.units.specs.Sums.{sumOver}
 use Rattle.units.specs.declared.Amount.{Amount}
-use Rattle.ledger.proofs.Laws.{fresh-shaped, fresh-total}
+use Rattle.ledger.proofs.Laws.{fresh-balance, fresh-shaped, fresh-total}
 use Rattle.model.proofs.Bid.{bid-keeps}
 use Rattle.model.proofs.Claim.{claim-keeps, pays, shares-are}
+use Rattle.model.proofs.Codes.{codes-rising}
 use Rattle.model.proofs.Enter.{enter-keeps}
 use Rattle.model.proofs.Funding.{deposit-keeps, withdraw-keeps}
-use Rattle.model.proofs.Inv.{Inv, MarketOk, RoundOk, TicketOk, atWork, partIn, placedOf, saysIn}
+use Rattle.model.proofs.Inv.{Inv, MarketOk, RoundOk, TicketOk, atWork, partIn, saysIn}
 use Rattle.model.proofs.Match.{match-keeps}
 use Rattle.model.proofs.Open.{open-keeps}
 use Rattle.model.proofs.Orders.{cancel-keeps, order-keeps}
@@ -113,12 +115,13 @@ fresh-inv =
     record {
       sized = record { shaped = fresh-shaped; supplies = refl; residues = refl; tickets = refl; markets = refl };
       tickets = λ k l. subst TicketOk (sym (fresh-ticket k l)) tt;
-      orders = λ k l. sym (ap placedOf (fresh-ticket k l));
+      orders = λ k l. sym (ap placedIn (fresh-ticket k l));
       places = λ k l n p q. sym (ap (λ s. saysIn s n) (fresh-ticket k l));
       markets = λ n p l. subst (λ (v : Phase). MarketOk v idle) (sym (fresh-phase n l)) tt;
       conserved = λ t l. omega (arith, fresh-total t l, fresh-resting t, fresh-rounds t, zeros t l);
       supplied = λ t l. omega (arith, zeros t l);
       bounded = λ t l. omega (arith, zeros t l);
+      accounts = λ m lm t lt. omega (arith, fresh-balance m t lm lt);
       residue-is = λ t l. zeros t l ∙ sym (put-nothing t);
       ended-well = nil;
       limits = nil;
@@ -219,15 +222,51 @@ module _ (h : Exchange) (y : History) (i : Inv h y) (k member market : ℕ) (sid
       subst (PaysOut h k order _ _) (sym (request-passes h k (st .ticket-range) order r entered paying line room l))
       (pays h y i k (st .ticket-range) order r b entered paying (st .round)))
 
+-- a refusal leaves the state: the decision's own refusals do, and an acceptance is none
+Leaves : Exchange → Outcome → Type 0
+Leaves h out = (why : Refusal) → out .answer ≡ Refused why → out .exchange ≡ h
+
+accepts : (a b : ℕ) (why : Refusal) → Accepted a b ≡ Refused why → ⊥
+accepts a b why e = let z : _≡_ {A = ℕ} 0 1 = cc in omega arith
+
+step-leaves : (h : Exchange) (c : Call) → Leaves h (stepOf h c)
+unfolding Leaves
+step-leaves h c =
+    rw (codes-rising h c .step-is)
+    (decided (refuse h) (doneOf h c) (λ out. (why : Refusal) → out .answer ≡ Refused why → out .exchange ≡ h) (testsOf h c) (λ r why e. refl) (λ p. done c))
+  where
+    done : (c : Call) (why : Refusal) → doneOf h c .answer ≡ Refused why → doneOf h c .exchange ≡ h
+    done (Call.Deposit m t n) why e = absurd (accepts _ _ why e)
+    done (Call.Withdraw m t n) why e = absurd (accepts _ _ why e)
+    done (Call.Order k m mk sd lim n) why e = absurd (accepts _ _ why e)
+    done (Call.Cancel k m) why e = absurd (accepts _ _ why e)
+    done (Call.Open mk at r w len) why e = absurd (accepts _ _ why e)
+    done (Call.Enter k) why e = absurd (accepts _ _ why e)
+    done (Call.Match mk at) why e = absurd (accepts _ _ why e)
+    done (Call.Bid mk m at sd n bound) why e = absurd (accepts _ _ why e)
+    done (Call.Settle mk at) why e = absurd (accepts _ _ why e)
+    done (Call.Claim k) why e = absurd (accepts _ _ why e)
+
+refused-leaves : (h : Exchange) (q : Request) (why : Refusal) → requestOf h q .answer ≡ Refused why → requestOf h q .exchange ≡ h
+unfolding requestOf Leaves
+refused-leaves h q why = go (ltb (q .room) (length (answerLine (q .line) (stepOf h (q .call) .answer))))
+  where
+    go : (t : Bool) → cond t (refuse h BufferTooShort) (stepOf h (q .call)) .answer ≡ Refused why → cond t (refuse h BufferTooShort) (stepOf h (q .call)) .exchange ≡ h
+    go true e = refl
+    go false e = step-leaves h (q .call) why e
+
 pub whole-of : (h : Exchange) (y : History) → Inv h y → Whole requestOf h y
 whole-of h y i =
     record {
       conserved = λ t l. omega (arith, i .conserved t l, i .supplied t l);
       supplied = i .supplied;
+      accounts = i .accounts;
+      tickets-are = λ k l. sym (i .orders k l);
+      refused-stays = λ q why e. refused-leaves h q why e;
       solvent = λ n p l b e. solvent-in (phase h n) b (subst (MarketOk (phase h n)) e (i .markets n p l));
       settled-pays =
           λ k member market side limit o b st. (
-            i .orders k (st .ticket-range) ∙ ap placedOf (entered h y i k member market side limit o b st),
+            i .orders k (st .ticket-range) ∙ ap placedIn (entered h y i k member market side limit o b st),
             claim-pays h y i k member market side limit o b st,
           );
       residue-is = i .residue-is;

@@ -24,7 +24,7 @@ use Rattle.model.specs.declared.answer.Refusal.{Refusal}
 use Rattle.model.specs.declared.answer.Refusal.the-variants.{NoSuchMember, NoSuchToken, NoSuchMarket, NoSuchTicket, NoSuchSide, BadAmountOrLimit, TicketInUse, NoSuchOrder, WrongTicketState, BadTerms, WrongPhase, StaleBlock, TooEarly, SupplyExceeded, LimitOutOfBounds, AuctionOver, NotAvailable, BoundMissed, InsufficientBalance}
 use Rattle.model.specs.declared.answer.Answer.the-variants.{Accepted, Refused}
 use Rattle.model.specs.declared.answer.Outcome.{Outcome}
-use Rattle.model.specs.Sides.{sideOf, bySide, offered, wanted}
+use Rattle.model.specs.Sides.{sideOf, bySide, offered, wanted, gives, takes}
 use Rattle.model.specs.State.{balance, supply, lastBlock, ticket, orderIn, isFree, isEntered, restingOr}
 use Rattle.model.specs.State.{phase, noTotals, roundIn, isClosed, isCollect, isAuction, isPaying, totalsOf}
 use Rattle.model.specs.State.{withSupply, withTicket, withPhase, withBlock, credit, debit, toResidue}
@@ -263,15 +263,6 @@ matchOf x market at = decide (matchTests x market at) (refuse x) (matchDone x ma
 -- "k = block - start", and the quote for n base at that block's price
 abbrev pub bidQuote : Round → Side → ℕ → ℕ → ℕ
 bidQuote r side at n = quoteFor side n (auctionPrice side (r .hi .0) (r .lo .0) (at - r .start .0) (r .length))
-
--- what the maker gives, and what the maker takes: base n and quote q on side 0, the reverse on side 1
-abbrev pub gives : Side → ℕ → ℕ → ℕ
-gives Buy n q = n
-gives Sell n q = q
-
-abbrev pub takes : Side → ℕ → ℕ → ℕ
-takes Buy n q = q
-takes Sell n q = n
 
 -- 17: "side 1: n above the base left. Side 0: quote comes to 0 or above the quote left"
 abbrev pub notAvailable : Side → ℕ → ℕ → Totals → Bool

@@ -11,7 +11,7 @@ use Rattle.model.specs.declared.call.Call.{Call}
 use Rattle.model.specs.declared.call.Call.the-variants as Call
 use Rattle.model.specs.declared.answer.Answer.{Answer}
 use Rattle.model.specs.declared.answer.Answer.the-variants.{Accepted, Refused}
-use Rattle.model.specs.Sides.{sideOf, other}
+use Rattle.model.specs.Sides.{sideOf, other, offered, wanted, gives, takes}
 use Rattle.model.specs.Run.{Event}
 
 -- ---- orders
@@ -158,10 +158,13 @@ pub record EndedRound : Type 0 where
   pub market : ℕ
   pub log : RoundLog
 
--- deposits and withdrawals by token, orders by ticket, rounds by market, the rounds that ended, and all claims
+-- deposits and withdrawals by token, what came to and went from each member by token, orders by ticket, rounds by market, the rounds that
+-- ended, and all claims
 pub record History : Type 0 where
   pub deposited : ℕ → ℕ
   pub withdrawn : ℕ → ℕ
+  pub credits : ℕ → ℕ → ℕ
+  pub debits : ℕ → ℕ → ℕ
   pub orders : ℕ → PlacedOrder
   pub rounds : ℕ → Current
   pub ended : List EndedRound
@@ -199,19 +202,39 @@ withBid b Sell n q =
 
 abbrev pub noHistory : History
 noHistory =
-    record { deposited = λ t. 0; withdrawn = λ t. 0; orders = λ k. no-order; rounds = λ n. idle; ended = []; payouts = [] }
+    record { deposited = λ t. 0; withdrawn = λ t. 0; credits = λ m t. 0; debits = λ m t. 0; orders = λ k. no-order; rounds = λ n. idle; ended = []; payouts = [] }
 
 abbrev pub withOrder : History → ℕ → PlacedOrder → History
 withOrder y k o =
-    record { deposited = y .deposited; withdrawn = y .withdrawn; orders = put (y .orders) k o; rounds = y .rounds; ended = y .ended; payouts = y .payouts }
+    record { deposited = y .deposited; withdrawn = y .withdrawn; credits = y .credits; debits = y .debits; orders = put (y .orders) k o; rounds = y .rounds; ended = y .ended; payouts = y .payouts }
+
+abbrev pub withDeposit : History → ℕ → ℕ → History
+withDeposit y t n =
+    record { deposited = put (y .deposited) t (y .deposited t + n); withdrawn = y .withdrawn; credits = y .credits; debits = y .debits; orders = y .orders; rounds = y .rounds; ended = y .ended; payouts = y .payouts }
+
+abbrev pub withWithdrawal : History → ℕ → ℕ → History
+withWithdrawal y t n =
+    record { deposited = y .deposited; withdrawn = put (y .withdrawn) t (y .withdrawn t + n); credits = y .credits; debits = y .debits; orders = y .orders; rounds = y .rounds; ended = y .ended; payouts = y .payouts }
+
+-- n more of token t for member m
+abbrev pub addedTo : (ℕ → ℕ → ℕ) → ℕ → ℕ → ℕ → ℕ → ℕ → ℕ
+addedTo f m t n = put f m (put (f m) t (f m t + n))
+
+abbrev pub withCredit : History → ℕ → ℕ → ℕ → History
+withCredit y m t n =
+    record { deposited = y .deposited; withdrawn = y .withdrawn; credits = addedTo (y .credits) m t n; debits = y .debits; orders = y .orders; rounds = y .rounds; ended = y .ended; payouts = y .payouts }
+
+abbrev pub withDebit : History → ℕ → ℕ → ℕ → History
+withDebit y m t n =
+    record { deposited = y .deposited; withdrawn = y .withdrawn; credits = y .credits; debits = addedTo (y .debits) m t n; orders = y .orders; rounds = y .rounds; ended = y .ended; payouts = y .payouts }
 
 abbrev pub withRound : History → ℕ → Current → History
 withRound y n c =
-    record { deposited = y .deposited; withdrawn = y .withdrawn; orders = y .orders; rounds = put (y .rounds) n c; ended = y .ended; payouts = y .payouts }
+    record { deposited = y .deposited; withdrawn = y .withdrawn; credits = y .credits; debits = y .debits; orders = y .orders; rounds = put (y .rounds) n c; ended = y .ended; payouts = y .payouts }
 
 abbrev pub withPayout : History → Payout → History
 withPayout y p =
-    record { deposited = y .deposited; withdrawn = y .withdrawn; orders = y .orders; rounds = y .rounds; ended = y .ended; payouts = p ∷ y .payouts }
+    record { deposited = y .deposited; withdrawn = y .withdrawn; credits = y .credits; debits = y .debits; orders = y .orders; rounds = y .rounds; ended = y .ended; payouts = p ∷ y .payouts }
 
 -- the market's round ends as b
 abbrev pub withEnd : History → ℕ → RoundLog → History
@@ -219,6 +242,8 @@ withEnd y n b =
     record {
       deposited = y .deposited;
       withdrawn = y .withdrawn;
+      credits = y .credits;
+      debits = y .debits;
       orders = y .orders;
       rounds = put (y .rounds) n idle;
       ended = record { market = n; log = b } ∷ y .ended;
@@ -232,6 +257,14 @@ endOrRound y n b = cond (eqb (waitingCount b) 0) (withEnd y n b) (withRound y n 
 abbrev pub sideIn : PlacedOrder → Side
 sideIn no-order = Buy
 sideIn (placed member market side limit left) = side
+
+abbrev pub memberIn : PlacedOrder → ℕ
+memberIn no-order = 0
+memberIn (placed member market side limit left) = member
+
+-- the token that an order offers
+abbrev pub tokenIn : PlacedOrder → ℕ
+tokenIn o = offered (sideIn o) (marketIn o)
 
 abbrev pub limitIn : PlacedOrder → ℕ
 limitIn no-order = 0
@@ -267,40 +300,32 @@ endedAt g f y n (running b) = cond (sameStage g (b .stage)) (endOrRound y n (f b
 abbrev pub withEnter : History → ℕ → PlacedOrder → History
 withEnter y k o = withRound y (marketIn o) (changedAt collecting (λ b. withPart b k (partOf o)) (y .rounds (marketIn o)))
 
--- a claim of ticket k with the order o: "paying it out leaves o - s with the ticket", and its part is claimed
+-- a claim of ticket k with the order o: "paying it out leaves o - s with the ticket and adds got to its member's balance"; its part is claimed
 abbrev pub withClaim : History → ℕ → PlacedOrder → ℕ → ℕ → History
 withClaim y k o s got =
     endedAt settled (λ b. withPart b k (claimedAs (b .part k) s got))
+    (withCredit
     (withOrder (withPayout y (record { side = sideIn o; limit = limitIn o; s = s; got = got })) k (lessPaid o s))
+    (memberIn o) (wanted (sideIn o) (marketIn o)) got)
     (marketIn o)
     (y .rounds (marketIn o))
 
 -- one accepted call with its two numbers
 unfoldable pub withAccepted : History → Call → ℕ → ℕ → History
-withAccepted y (Call.Deposit member token n) a b =
-    record {
-      deposited = put (y .deposited) token (y .deposited token + n);
-      withdrawn = y .withdrawn;
-      orders = y .orders;
-      rounds = y .rounds;
-      ended = y .ended;
-      payouts = y .payouts;
-    }
-withAccepted y (Call.Withdraw member token n) a b =
-    record {
-      deposited = y .deposited;
-      withdrawn = put (y .withdrawn) token (y .withdrawn token + n);
-      orders = y .orders;
-      rounds = y .rounds;
-      ended = y .ended;
-      payouts = y .payouts;
-    }
-withAccepted y (Call.Order k member market side limit n) a b = withOrder y k (placed member market (sideOf side) limit n)
-withAccepted y (Call.Cancel k member) a b = withOrder y k no-order
+withAccepted y (Call.Deposit member token n) a b = withCredit (withDeposit y token n) member token n
+withAccepted y (Call.Withdraw member token n) a b = withDebit (withWithdrawal y token n) member token n
+withAccepted y (Call.Order k member market side limit n) a b =
+    withDebit (withOrder y k (placed member market (sideOf side) limit n)) member (offered (sideOf side) market) n
+withAccepted y (Call.Cancel k member) left b = withCredit (withOrder y k no-order) member (tokenIn (y .orders k)) left
 withAccepted y (Call.Open market at r w len) hi lo = withRound y market (openedOn (y .rounds market))
 withAccepted y (Call.Enter k) a b = withEnter y k (y .orders k)
 withAccepted y (Call.Match market at) m c = withRound y market (changedAt collecting (λ b. withMatch b m c) (y .rounds market))
-withAccepted y (Call.Bid market member at side n bound) n′ q = withRound y market (changedAt auctioning (λ b. withBid b (sideOf side) n q) (y .rounds market))
+withAccepted y (Call.Bid market member at side n bound) n′ q =
+    withCredit
+    (withDebit
+    (withRound y market (changedAt auctioning (λ b. withBid b (sideOf side) n q) (y .rounds market)))
+    member (wanted (sideOf side) market) (gives (sideOf side) n q))
+    member (offered (sideOf side) market) (takes (sideOf side) n q)
 withAccepted y (Call.Settle market at) quote base = endedAt auctioning withSettle y market (y .rounds market)
 withAccepted y (Call.Claim k) s got = withClaim y k (y .orders k) s got
 

@@ -24,3 +24,12 @@ offered Sell market = market
 abbrev pub wanted : Side → ℕ → ℕ
 wanted Buy market = market
 wanted Sell market = 0
+
+-- what the maker of a bid for n base and q quote gives, and what the maker takes: the reverse of what the side does whose orders it meets
+abbrev pub gives : Side → ℕ → ℕ → ℕ
+gives Buy n q = n
+gives Sell n q = q
+
+abbrev pub takes : Side → ℕ → ℕ → ℕ
+takes Buy n q = q
+takes Sell n q = n

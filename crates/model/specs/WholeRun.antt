@@ -1,6 +1,5 @@
 -- Demand 3: one statement about every list of requests from the fresh state, of any engine. It uses of the engine only the answers that it gave
--- and what is read off the state: balances, resting offers and the residue, as document 01 has it; beside them the supply that refusal 14
--- looks at, and for a claim the tickets before and after it.
+-- and what is read off the state: balances, tickets and the residue, as document 01 has it, and beside them the supply that refusal 14 looks at.
 -- An engine that refuses every call meets it: that calls are accepted when they should be is what the calls' own definitions say.
 use Prim.Native.Nat.{ℕ, suc, _+_, _-_, _≤_, _<_}
 use mathlib.Core.Path.{_≡_}
@@ -18,13 +17,14 @@ use Rattle.model.specs.declared.state.TicketState.{TicketState}
 use Rattle.model.specs.declared.state.TicketState.the-variants.{Free, Resting, Entered}
 use Rattle.model.specs.declared.state.Exchange.{Exchange}
 use Rattle.model.specs.declared.call.Call.the-variants as Call
-use Rattle.model.specs.declared.answer.Answer.the-variants.{Accepted}
+use Rattle.model.specs.declared.answer.Answer.the-variants.{Accepted, Refused}
+use Rattle.model.specs.declared.answer.Refusal.{Refusal}
 use Rattle.model.specs.declared.answer.Outcome.{Outcome}
 use Rattle.model.specs.Sides.{offered, wanted}
 use Rattle.model.specs.State.{balance, supply, residue, ticket, freeTicket, restingOr, freshExchange}
 use Rattle.model.specs.Answers.{answerLine}
 use Rattle.model.specs.Run.{Request, Engine, requestOf, eventsOf, stateAfter}
-use Rattle.model.specs.History.{PlacedOrder, placed, Part, waiting, Stage, settled, RoundLog, Current, idle, running, T, P, G, cameIn, wentOut, holds, ticketCount, Payout, EndedRound, History, historyOf}
+use Rattle.model.specs.History.{PlacedOrder, no-order, placed, Part, waiting, Stage, settled, RoundLog, Current, idle, running, T, P, G, cameIn, wentOut, holds, ticketCount, Payout, EndedRound, History, historyOf}
 
 -- ---- read off the state
 
@@ -43,6 +43,12 @@ restingTotal ts t = sumTo 64 (λ k. restingIn (getD ts k freeTicket .state) t)
 
 abbrev pub resting : Exchange → ℕ → ℕ
 resting x t = restingTotal (x .tickets) t
+
+-- the order of a ticket in use, as history tells it
+abbrev pub placedIn : TicketState → PlacedOrder
+placedIn Free = no-order
+placedIn (Resting o) = placed (o .member) (o .market) (o .side) (o .limit .0) (o .offer .0)
+placedIn (Entered o) = placed (o .member) (o .market) (o .side) (o .limit .0) (o .offer .0)
 
 -- ---- worked from history
 
@@ -115,8 +121,14 @@ pub record Whole (f : Engine) (x : Exchange) (y : History) : Type 0 where
   pub conserved : (t : ℕ) → t < 4 → balances x t + resting x t + inRounds y t + residue x t + y .withdrawn t ≡ y .deposited t
   -- what refusal 14 looks at is the accepted deposits less the accepted withdrawals
   pub supplied : (t : ℕ) → t < 4 → supply x t + y .withdrawn t ≡ y .deposited t
+  -- every member's balance is what accepted calls brought to it less what they took from it
+  pub accounts : (m : ℕ) → m < 16 → (t : ℕ) → t < 4 → balance x m t + y .debits m t ≡ y .credits m t
+  -- every ticket's order is the one placed there, with its amount less the s of its claims
+  pub tickets-are : (k : ℕ) → k < 64 → placedIn (ticket x k) ≡ y .orders k
   -- a running round can pay what it owes
   pub solvent : (n : ℕ) → 0 < n → n < 4 → (b : RoundLog) → y .rounds n ≡ running b → Covered b
+  -- a request that is refused leaves the state
+  pub refused-stays : (q : Request) (why : Refusal) → f x q .answer ≡ Refused why → f x q .exchange ≡ x
   -- every settled ticket's claim, with room for its line, is accepted and pays its full share, worked from history
   pub settled-pays :
       (k member market : ℕ) (side : Side) (limit o : ℕ) (b : RoundLog) → SettledTicket y k member market side limit o b
