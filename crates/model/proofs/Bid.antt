@@ -5,6 +5,7 @@ use mathlib.Core.Path.{_∙_, _≡_, ap, refl, subst, subst₂, sym}
 use native.Mathlib.Omega.{arith}
 use lib.Dec.{eqb, ltb}
 use borrow.Author.Tests.{eqb-false, ltb-false, not-false}
+use Rattle.model.specs.Bounds.{heldIn}
 use Rattle.model.specs.Calls.{bidDone, bidQuote, bidRound, bidTests, notAvailable}
 use Rattle.model.specs.History.{Current, G, History, P, RoundLog, T, addedTo, auctioning, cameIn, holds, isWaiting, logOf, put, running, wentOut, whenSame, withAccepted, withBid, withCredit, withDebit, withEvent, withRound}
 use Rattle.model.specs.Sides.{gives, offered, other, sideOf, takes, wanted}
@@ -20,7 +21,7 @@ use Rattle.units.specs.Counts.{largest}
 use Rattle.units.specs.Sums.{only}
 use Rattle.ledger.proofs.Laws.{credited-total, debited-total}
 use Rattle.model.proofs.Frames.{inside, markets-set, offered-lt, offered-split, places-round, wanted-lt, wanted-split}
-use Rattle.model.proofs.Inv.{Inv, MarketOk, PartOk, RoundOk, atWork, auction-is, changed-at, heldIn, partIn, running-is}
+use Rattle.model.proofs.Inv.{Inv, MarketOk, PartOk, RoundOk, atWork, auction-is, changed-at, partIn, running-is}
 use Rattle.model.proofs.Reading.{Sized, account-credit, account-debit, inRounds-set, put-same, sized-block, sized-credit, sized-debit, sized-phase}
 use Rattle.model.proofs.Rounds.{held-within, part-early, went-zero}
 use Rattle.pricing.proofs.Limits.{Rate, rate-add, rate-bid-buy, rate-bid-sell, rate-none}

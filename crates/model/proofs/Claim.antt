@@ -7,6 +7,7 @@ use native.Mathlib.Omega.{arith}
 use lib.Dec.{eqb}
 use lib.ListN.{length}
 use borrow.Author.Tests.{eq-eqb, eqb-true, ltb-false, ne-eqb, not-false}
+use Rattle.model.specs.Bounds.{OrderBounds, TicketBounds, heldIn}
 use Rattle.model.specs.Calls.{claimDone, claimTests, claimWith, claimedRound, payingOrClosed}
 use Rattle.model.specs.History.{Current, G, History, P, Part, PlacedOrder, RoundLog, T, absent, cameIn, claimed, claimedAs, endOrRound, holds, idle, isTicket, isWaiting, logOf, movedOut, offerOn, placedOr, put, running, settled, ticketCount, waiting, waitingCount, wentOut, whenSame, withAccepted, withClaim, withCredit, withEnd, withEvent, withOrder, withPart, withPayout, withRound}
 use Rattle.model.specs.Sides.{offered, wanted}
@@ -25,7 +26,7 @@ use Rattle.ticket_set.specs.TicketSet.{bit, countOf, removed}
 use Rattle.units.specs.Sums.{only, sumOver}
 use Rattle.ledger.proofs.Laws.{credited-balance, credited-other, credited-total}
 use Rattle.model.proofs.Frames.{markets-set, orders-set, places-part, tickets-set, wanted-lt}
-use Rattle.model.proofs.Inv.{ClaimedOk, Inv, MarketOk, OrderOk, PartOk, RoundOk, TicketOk, WaitingOk, atWork, ended-at, entered-is, heldIn, partIn, paying-is, running-is, saysIn}
+use Rattle.model.proofs.Inv.{ClaimedOk, Inv, MarketOk, PartOk, RoundOk, WaitingOk, atWork, ended-at, entered-is, partIn, paying-is, running-is, saysIn}
 use Rattle.model.proofs.Reading.{Sized, account-credit, fewer-of, inRounds-set, put-each, put-same, residue-plus, resting-set, sized-credit, sized-phase, sized-residue, sized-ticket, ticket-other, ticket-same}
 use Rattle.model.proofs.Rounds.{G-part, P-part, T-part, cameIn-part, covers, leaves, marks-count, marks-part, none-waiting, over-work, wentOut-part}
 use Rattle.pricing.proofs.Limits.{limit-kept}
@@ -54,7 +55,7 @@ placed-resting : (o : Order) (rest : ℕ) → placedOr (o .member) (o .market) (
 placed-resting o zero = refl
 placed-resting o (suc rest) = refl
 
-ok-resting : (o : Order) (rest : ℕ) → OrderOk o → TicketOk (restingOr o rest)
+ok-resting : (o : Order) (rest : ℕ) → OrderBounds o → TicketBounds (restingOr o rest)
 ok-resting o zero k = tt
 ok-resting o (suc rest) k =
     record { member = k .member; market-low = k .market-low; market-high = k .market-high; limit = k .limit; offer = omega arith }
@@ -113,8 +114,8 @@ module _ (h : Exchange) (y : History) (i : Inv h y) (k : ℕ) (hk : k < 64) (o :
   abbrev r1 : Round
   r1 = claimedRound r k side rest got
 
-  pub oOk : OrderOk o
-  oOk = subst TicketOk et (i .tickets k hk)
+  pub oOk : OrderBounds o
+  oOk = subst TicketBounds et (i .tickets k hk)
 
   pub rOk : RoundOk settled r b
   rOk = subst₂ MarketOk ep er (i .markets mk (oOk .market-low) (oOk .market-high))
@@ -248,7 +249,7 @@ module _ (h : Exchange) (y : History) (i : Inv h y) (k : ℕ) (hk : k < 64) (o :
   kl : k < length (h .tickets)
   kl = omega (arith, i .sized .tickets)
 
-  tickets2 : (j : ℕ) → j < 64 → TicketOk (ticket h2 j)
+  tickets2 : (j : ℕ) → j < 64 → TicketBounds (ticket h2 j)
   tickets2 = tickets-set h k (restingOr o rest) kl (ok-resting o rest oOk) (i .tickets)
 
   orders2 : (j : ℕ) → j < 64 → y2 .orders j ≡ placedIn (ticket h2 j)
@@ -447,7 +448,7 @@ claim-keeps h y k i p =
     let et : ticket h k ≡ Entered o = entered-is (ticket h k) (not-false (isEntered (ticket h k)) (p .1 .1 .0)) in
     let r : Round = roundIn (phase h (o .market)) in
     let ep : phase h (o .market) ≡ Paying r = paying-is (phase h (o .market)) (not-false (isPaying (phase h (o .market))) (p .1 .1 .1 .0)) in
-    let ok : OrderOk o = subst TicketOk et (i .tickets k hk) in
+    let ok : OrderBounds o = subst TicketBounds et (i .tickets k hk) in
     let er : y .rounds (o .market) ≡ running (logOf (y .rounds (o .market))) =
     running-is (phase h (o .market)) (y .rounds (o .market)) (ap isClosed ep) (i .markets (o .market) (ok .market-low) (ok .market-high)) in
     let ey : y .orders k ≡ placedIn (Entered o) = i .orders k hk ∙ ap placedIn et in

@@ -5,6 +5,7 @@ use mathlib.Core.Path.{_∙_, _≡_, ap, refl, subst, subst₂, sym}
 use native.Mathlib.Omega.{arith}
 use lib.ListN.{length}
 use borrow.Author.Tests.{eq-eqb, ltb-false, ne-eqb, not-false}
+use Rattle.model.specs.Bounds.{OrderBounds, TicketBounds, heldIn}
 use Rattle.model.specs.Calls.{enterDone, enterTests, enteredRound}
 use Rattle.model.specs.History.{Current, G, History, P, Part, PlacedOrder, RoundLog, T, absent, cameIn, collecting, given, holds, logOf, movedOut, offerOn, put, running, taken, traded, waiting, wentOut, whenSame, withAccepted, withEnter, withEvent, withPart, withRound}
 use Rattle.model.specs.Sides.{offered, other}
@@ -23,7 +24,7 @@ use Rattle.ticket_set.specs.TicketSet.{inserted}
 use Rattle.units.specs.Counts.{largest}
 use Rattle.units.specs.Sums.{only}
 use Rattle.model.proofs.Frames.{each-ticket, markets-set, offered-lt, offered-split, places-part, tickets-set}
-use Rattle.model.proofs.Inv.{Inv, MarketOk, OrderOk, PartOk, Quiet, RoundOk, TicketOk, atWork, changed-at, collect-is, heldIn, partIn, resting-is, running-is, saysIn}
+use Rattle.model.proofs.Inv.{Inv, MarketOk, PartOk, Quiet, RoundOk, atWork, changed-at, collect-is, partIn, resting-is, running-is, saysIn}
 use Rattle.model.proofs.Reading.{Sized, inRounds-set, put-each, put-same, resting-set, sized-phase, sized-ticket}
 use Rattle.model.proofs.Rounds.{G-part, P-part, T-part, absent-is, cameIn-part, held-within, marks-part, part-early, went-zero, wentOut-part}
 use Rattle.ticket_set.proofs.Bits.{bit-inserted-other, bit-inserted-same, inserted-lt}
@@ -78,8 +79,8 @@ module _ (h : Exchange) (y : History) (i : Inv h y) (k : ℕ) (hk : k < 64) (o :
   abbrev r1 : Round
   r1 = enteredRound r k side n
 
-  oOk : OrderOk o
-  oOk = subst TicketOk et (i .tickets k hk)
+  oOk : OrderBounds o
+  oOk = subst TicketBounds et (i .tickets k hk)
 
   both-ok : RoundOk collecting r b × Quiet b
   both-ok = subst₂ MarketOk ep er (i .markets mk (oOk .market-low) (oOk .market-high))
@@ -237,7 +238,7 @@ enter-keeps h y k i p =
     let et : ticket h k ≡ Resting o = resting-is (ticket h k) (p .1 .0) (p .1 .1 .0) in
     let r : Round = roundIn (phase h (o .market)) in
     let ep : phase h (o .market) ≡ Collect r = collect-is (phase h (o .market)) (not-false (isCollect (phase h (o .market))) (p .1 .1 .1 .0)) in
-    let ok : OrderOk o = subst TicketOk et (i .tickets k hk) in
+    let ok : OrderBounds o = subst TicketBounds et (i .tickets k hk) in
     let er : y .rounds (o .market) ≡ running (logOf (y .rounds (o .market))) =
     running-is (phase h (o .market)) (y .rounds (o .market)) (ap isClosed ep) (i .markets (o .market) (ok .market-low) (ok .market-high)) in
     let ey : y .orders k ≡ placedIn (Resting o) = i .orders k hk ∙ ap placedIn et in

@@ -7,6 +7,7 @@ use native.Mathlib.Omega.{arith}
 use lib.Dec.{ltb}
 use lib.ListN.{length}
 use borrow.Author.Tests.{ltb-false}
+use Rattle.model.specs.Bounds.{TicketBounds}
 use Rattle.model.specs.Calls.{outside}
 use Rattle.model.specs.History.{Current, Part, PlacedOrder, RoundLog, put, running, whenSame}
 use Rattle.model.specs.Sides.{offered, other, wanted}
@@ -18,7 +19,7 @@ use Rattle.model.specs.declared.state.TicketState.{TicketState}
 use Rattle.pricing.specs.declared.Side.{Side}
 use Rattle.pricing.specs.declared.Side.the-variants.{Buy, Sell}
 use Rattle.units.specs.Sums.{only}
-use Rattle.model.proofs.Inv.{MarketOk, TicketOk, atWork, partIn, saysIn}
+use Rattle.model.proofs.Inv.{MarketOk, atWork, partIn, saysIn}
 use Rattle.model.proofs.Reading.{phase-other, phase-same, put-each, put-other, put-same, ticket-other, ticket-same}
 use Rattle.units.proofs.Decide.{or-false}
 use Rattle.units.proofs.Sums.{only-zero}
@@ -60,8 +61,8 @@ module _ (g : Exchange) (k : ℕ) (s : TicketState) (hk : k < length (g .tickets
       go (yes e) = subst (λ (a : ℕ). Q a (ticket (withTicket g k s) a)) (sym e) (subst (Q k) (sym (ticket-same g k s hk)) here)
       go (no d) = subst (Q j) (sym (ticket-other g k s j d)) (there d)
 
-  pub tickets-set : TicketOk s → ((j : ℕ) → j < 64 → TicketOk (ticket g j)) → (j : ℕ) → j < 64 → TicketOk (ticket (withTicket g k s) j)
-  tickets-set ok all j hj = each-ticket (λ a t. TicketOk t) ok j (λ d. all j hj)
+  pub tickets-set : TicketBounds s → ((j : ℕ) → j < 64 → TicketBounds (ticket g j)) → (j : ℕ) → j < 64 → TicketBounds (ticket (withTicket g k s) j)
+  tickets-set ok all j hj = each-ticket (λ a t. TicketBounds t) ok j (λ d. all j hj)
 
   pub orders-set : (f : ℕ → PlacedOrder) (v : PlacedOrder) → v ≡ placedIn s → ((j : ℕ) → j < 64 → f j ≡ placedIn (ticket g j))
       → (j : ℕ) → j < 64 → put f k v j ≡ placedIn (ticket (withTicket g k s) j)

@@ -4,11 +4,11 @@ use mathlib.Core.Bool.{cond, false, true}
 use mathlib.Core.Path.{_∙_, _≡_, ap, refl}
 use native.Mathlib.Omega.{arith}
 use lib.Dec.{eqb}
+use Rattle.model.specs.Bounds.{TermsBounds, TicketBounds, heldIn}
 use Rattle.model.specs.History.{Current, G, History, P, Part, RoundLog, Stage, T, absent, auctioning, cameIn, changedAt, claimed, collecting, endOrRound, endedAt, given, idle, isWaiting, logOf, running, sameStage, settled, taken, traded, waiting, wentOut}
 use Rattle.model.specs.State.{balance, isAuction, isClosed, isCollect, isEntered, isFree, isPaying, orderIn, phase, residue, roundIn, supply, ticket, totalsOf}
 use Rattle.model.specs.WholeRun.{All, EndedWell, LimitKept, balances, inRounds, placedIn, putBy, resting}
 use Rattle.model.specs.declared.state.Exchange.{Exchange}
-use Rattle.model.specs.declared.state.Order.{Order}
 use Rattle.model.specs.declared.state.Phase.{Phase}
 use Rattle.model.specs.declared.state.Phase.the-variants.{Auction, Closed, Collect, Paying}
 use Rattle.model.specs.declared.state.Round.{Round}
@@ -16,7 +16,6 @@ use Rattle.model.specs.declared.state.TicketState.{TicketState}
 use Rattle.model.specs.declared.state.TicketState.the-variants.{Entered, Free, Resting}
 use Rattle.pricing.specs.Prices.{offLimit, shareGot, sharePaid}
 use Rattle.pricing.specs.declared.Side.{Side}
-use Rattle.pricing.specs.declared.Side.the-variants.{Buy, Sell}
 use Rattle.ticket_set.specs.TicketSet.{bit}
 use Rattle.units.specs.Counts.{largest}
 use Rattle.units.specs.Sums.{sumOver}
@@ -41,24 +40,7 @@ abbrev pub partIn : Current → ℕ → Part
 partIn idle k = absent
 partIn (running b) k = b .part k
 
-pub record OrderOk (o : Order) : Type 0 where
-  pub member : o .member < 16
-  pub market-low : 0 < o .market
-  pub market-high : o .market < 4
-  pub limit : 0 < o .limit .0
-  pub offer : 0 < o .offer .0
-
-abbrev pub TicketOk : TicketState → Type 0
-TicketOk Free = Unit {0}
-TicketOk (Resting o) = OrderOk o
-TicketOk (Entered o) = OrderOk o
-
 -- ---- rounds
-
--- what a round holds of the token that a side offers
-abbrev pub heldIn : Round → Side → ℕ
-heldIn r Buy = r .quote .0
-heldIn r Sell = r .base .0
 
 -- a ticket that waits entered with a limit that the round's bound keeps
 pub record WaitingOk (hi lo : ℕ) (side : Side) (limit o : ℕ) : Type 0 where
@@ -82,15 +64,6 @@ PartOk g hi lo b absent = Unit {0}
 PartOk g hi lo b (waiting member side limit o) = WaitingOk hi lo side limit o
 PartOk g hi lo b (claimed member side limit o s got) = ClaimsAt g × ClaimedOk b side o s got
 
--- the prices and the length that a round was opened with
-pub record TermsOk (reference hi lo len : ℕ) : Type 0 where
-  pub low : 0 < lo
-  pub order-low : lo ≤ reference
-  pub order-high : reference ≤ hi
-  pub high : hi ≤ 1500000000
-  pub len-pos : 0 < len
-  pub len-high : len ≤ 64
-
 pub record RoundOk (g : Stage) (r : Round) (b : RoundLog) : Type 0 where
   pub stage : b .stage ≡ g
   pub total : (x : Side) → totalsOf r x .total .0 ≡ T b x
@@ -104,7 +77,7 @@ pub record RoundOk (g : Stage) (r : Round) (b : RoundLog) : Type 0 where
   pub empty : (x : Side) → T b x ≡ 0 → G b x ≡ 0
   pub rate : (x : Side) → Rate x (r .hi .0) (r .lo .0) (P b x) (G b x)
   pub parts : (k : ℕ) → k < 64 → PartOk g (r .hi .0) (r .lo .0) b (b .part k)
-  pub terms : TermsOk (r .reference .0) (r .hi .0) (r .lo .0) (r .length)
+  pub terms : TermsBounds (r .reference .0) (r .hi .0) (r .lo .0) (r .length)
   pub small-total : (x : Side) → T b x ≤ largest
   pub small-got : (x : Side) → G b x ≤ largest
 
@@ -126,7 +99,7 @@ MarketOk (Paying r) (running b) = RoundOk settled r b
 
 pub record Inv (h : Exchange) (y : History) : Type 0 where
   pub sized : Sized h
-  pub tickets : (k : ℕ) → k < 64 → TicketOk (ticket h k)
+  pub tickets : (k : ℕ) → k < 64 → TicketBounds (ticket h k)
   pub orders : (k : ℕ) → k < 64 → y .orders k ≡ placedIn (ticket h k)
   pub places : (k : ℕ) → k < 64 → (n : ℕ) → 0 < n → n < 4 → atWork (partIn (y .rounds n) k) ≡ saysIn (ticket h k) n
   pub markets : (n : ℕ) → 0 < n → n < 4 → MarketOk (phase h n) (y .rounds n)

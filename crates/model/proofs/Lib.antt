@@ -14,3 +14,6 @@ pub mod Claim
 pub mod Codes
 pub mod WholeRun
 pub mod Reach
+pub mod Clock
+pub mod Bounds
+pub mod Closing

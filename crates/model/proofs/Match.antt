@@ -3,6 +3,7 @@ use Prim.Native.Nat.{_+_, _-_, _<_, _≤_, ℕ}
 use mathlib.Core.Path.{_∙_, _≡_, ap, ap₂, refl, subst, subst₂, sym}
 use native.Mathlib.Omega.{arith}
 use borrow.Author.Tests.{not-false}
+use Rattle.model.specs.Bounds.{heldIn}
 use Rattle.model.specs.Calls.{matchDone, matchTests, matchedRound, tradeOf}
 use Rattle.model.specs.History.{Current, G, History, P, RoundLog, T, auctioning, cameIn, collecting, holds, logOf, running, wentOut, withAccepted, withEvent, withMatch, withRound}
 use Rattle.model.specs.State.{isClosed, isCollect, phase, roundIn, totalsOf, withBlock, withPhase}
@@ -15,7 +16,7 @@ use Rattle.pricing.specs.declared.Side.the-variants.{Buy, Sell}
 use Rattle.units.specs.Counts.{largest}
 use Rattle.units.specs.Sums.{only}
 use Rattle.model.proofs.Frames.{inside, markets-set, places-round}
-use Rattle.model.proofs.Inv.{Inv, MarketOk, Quiet, RoundOk, atWork, changed-at, collect-is, heldIn, partIn, running-is}
+use Rattle.model.proofs.Inv.{Inv, MarketOk, Quiet, RoundOk, atWork, changed-at, collect-is, partIn, running-is}
 use Rattle.model.proofs.Reading.{inRounds-set, sized-block, sized-phase}
 use Rattle.model.proofs.Rounds.{part-early}
 use Rattle.pricing.proofs.Limits.{Rate, rate-trade-buy, rate-trade-sell}

@@ -6,6 +6,7 @@ use native.Mathlib.Nat.{zero-sub}
 use native.Mathlib.Omega.{arith}
 use lib.Dec.{lit<, ltb}
 use borrow.Author.Tests.{ltb-false, not-false}
+use Rattle.model.specs.Bounds.{heldIn}
 use Rattle.model.specs.Calls.{openDone, openTests, openedRound, outside}
 use Rattle.model.specs.History.{Current, G, History, P, T, absent, cameIn, collecting, emptyLog, given, holds, idle, movedOut, openedOn, running, taken, traded, wentOut, withAccepted, withEvent, withRound}
 use Rattle.model.specs.State.{isClosed, phase, totalsOf, withPhase}
@@ -18,7 +19,7 @@ use Rattle.pricing.specs.declared.Side.{Side}
 use Rattle.pricing.specs.declared.Side.the-variants.{Buy, Sell}
 use Rattle.units.specs.Sums.{only}
 use Rattle.model.proofs.Frames.{inside, markets-set, places-round}
-use Rattle.model.proofs.Inv.{Inv, MarketOk, Quiet, RoundOk, atWork, closed-is, heldIn, idle-is, partIn}
+use Rattle.model.proofs.Inv.{Inv, MarketOk, Quiet, RoundOk, atWork, closed-is, idle-is, partIn}
 use Rattle.model.proofs.Reading.{inRounds-set, sized-block, sized-phase}
 use Rattle.pricing.proofs.Limits.{rate-none}
 use Rattle.pricing.proofs.Prices.{high-le, le-high, low-le, low-pos}

@@ -5,6 +5,7 @@ use mathlib.Core.Path.{_∙_, _≡_, ap, refl, subst, sym}
 use native.Mathlib.Omega.{arith}
 use lib.Dec.{eqb}
 use borrow.Author.Tests.{eqb-false, ltb-false, not-false}
+use Rattle.model.specs.Bounds.{OrderBounds, TicketBounds}
 use Rattle.model.specs.Calls.{cancelDone, cancelTests, orderDone, orderTests, outside}
 use Rattle.model.specs.History.{History, PlacedOrder, no-order, placed, tokenIn, withAccepted, withCredit, withEvent, withOrder}
 use Rattle.model.specs.Sides.{offered, sideOf}
@@ -17,7 +18,7 @@ use Rattle.units.specs.Counts.{amount, price}
 use Rattle.units.specs.Sums.{only}
 use Rattle.ledger.proofs.Laws.{credited-total, debited-total}
 use Rattle.model.proofs.Frames.{inside, offered-lt, orders-set, places-set, tickets-set}
-use Rattle.model.proofs.Inv.{Inv, OrderOk, TicketOk, free-is, resting-is, saysIn}
+use Rattle.model.proofs.Inv.{Inv, free-is, resting-is, saysIn}
 use Rattle.model.proofs.Reading.{Sized, account-credit, account-debit, resting-set, sized-credit, sized-debit, sized-ticket}
 use Rattle.units.proofs.Decide.{Passed, or-false}
 use Rattle.model.specs.declared.call.Call.the-variants as Call
@@ -40,7 +41,7 @@ order-keeps h y k m mk sd lim n i p =
     let z1 : Sized h1 = sized-debit h m tok n (i .sized) in
     let lk : k < 64 = omega arith in
     let er : (u : ℕ) → restingIn (ticket h k) u ≡ 0 = λ u. ap (λ t. restingIn t u) et in
-    let ok : OrderOk o = record { member = omega arith; market-low = omega arith; market-high = omega arith; limit = omega arith; offer = omega arith } in
+    let ok : OrderBounds o = record { member = omega arith; market-low = omega arith; market-high = omega arith; limit = omega arith; offer = omega arith } in
     record {
       sized = sized-ticket h1 k (Resting o) z1;
       tickets = tickets-set h1 k (Resting o) (omega (arith, z1 .tickets)) ok (i .tickets);
@@ -73,7 +74,7 @@ cancel-keeps h y k m i p =
     let hk : k ≤ 63 = ltb-false 63 k (p .1 .0) in
     let lk : k < 64 = omega arith in
     let et : ticket h k ≡ Resting o = resting-is (ticket h k) (or-false (isFree (ticket h k)) (not (eqb (o .member) m)) (p .1 .1 .0) .0) (p .1 .1 .1 .0) in
-    let ok : OrderOk o = subst TicketOk et (i .tickets k lk) in
+    let ok : OrderBounds o = subst TicketBounds et (i .tickets k lk) in
     let h1 : Exchange = credit h m tok (o .offer .0) in
     let z1 : Sized h1 = sized-credit h m tok (o .offer .0) (i .sized) in
     let er : (u : ℕ) → restingIn (ticket h k) u ≡ only tok (o .offer .0) u = λ u. ap (λ t. restingIn t u) et in

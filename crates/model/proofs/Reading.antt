@@ -61,7 +61,7 @@ added-other f m t n j u d = ap (λ (g : ℕ → ℕ). g u) (put-other f m (put (
 
 -- a credit, and a debit that the balance covers, told to history as well, keep every member's account
 module _ (l : Ledger) (c d : ℕ → ℕ → ℕ) (z : Shaped l) (m t n : ℕ) (hm : m < 16) (ht : t < 4)
-  (kept : (j : ℕ) → j < 16 → (u : ℕ) → u < 4 → balanceIn l j u + d j u ≡ c j u) where
+    (kept : (j : ℕ) → j < 16 → (u : ℕ) → u < 4 → balanceIn l j u + d j u ≡ c j u) where
   pub account-credit : (j : ℕ) → j < 16 → (u : ℕ) → u < 4 → balanceIn (credited l m t n) j u + d j u ≡ addedTo c m t n j u
   account-credit j hj u hu = go (ℕ-discrete j m)
     where

@@ -8,6 +8,7 @@ use lib.Dec.{eqb, ltb}
 use lib.ListN.{getD, getD-replicate, length, replicate}
 use borrow.Author.Tests.{eqb-true, le-ltb}
 use Rattle.model.specs.Answers.{answerLine}
+use Rattle.model.specs.Bounds.{TicketBounds}
 use Rattle.model.specs.Calls.{bidDone, bidOf, bidTests, cancelDone, cancelOf, cancelTests, claimDone, claimOf, claimTests, claimWith, depositDone, depositOf, depositTests, enterDone, enterOf, enterTests, matchDone, matchOf, matchTests, openDone, openOf, openTests, orderDone, orderOf, orderTests, refuse, settleDone, settleOf, settleTests, withdrawDone, withdrawOf, withdrawTests}
 use Rattle.model.specs.Codes.{doneOf, testsOf}
 use Rattle.model.specs.History.{Current, G, History, P, Part, RoundLog, Stage, T, absent, historyFrom, historyOf, idle, noHistory, running, settled, waiting, withEvent}
@@ -40,7 +41,7 @@ use Rattle.model.proofs.Claim.{claim-keeps, pays, shares-are}
 use Rattle.model.proofs.Codes.{codes-rising}
 use Rattle.model.proofs.Enter.{enter-keeps}
 use Rattle.model.proofs.Funding.{deposit-keeps, withdraw-keeps}
-use Rattle.model.proofs.Inv.{Inv, MarketOk, RoundOk, TicketOk, atWork, partIn, saysIn}
+use Rattle.model.proofs.Inv.{Inv, MarketOk, RoundOk, atWork, partIn, saysIn}
 use Rattle.model.proofs.Match.{match-keeps}
 use Rattle.model.proofs.Open.{open-keeps}
 use Rattle.model.proofs.Orders.{cancel-keeps, order-keeps}
@@ -114,7 +115,7 @@ pub fresh-inv : Inv freshExchange noHistory
 fresh-inv =
     record {
       sized = record { shaped = fresh-shaped; supplies = refl; residues = refl; tickets = refl; markets = refl };
-      tickets = λ k l. subst TicketOk (sym (fresh-ticket k l)) tt;
+      tickets = λ k l. subst TicketBounds (sym (fresh-ticket k l)) tt;
       orders = λ k l. sym (ap placedIn (fresh-ticket k l));
       places = λ k l n p q. sym (ap (λ s. saysIn s n) (fresh-ticket k l));
       markets = λ n p l. subst (λ (v : Phase). MarketOk v idle) (sym (fresh-phase n l)) tt;

@@ -7,3 +7,4 @@ pub mod Codes
 pub mod History
 pub mod WholeRun
 pub mod Closing
+pub mod Bounds
