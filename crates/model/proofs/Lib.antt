@@ -17,3 +17,6 @@ pub mod Reach
 pub mod Clock
 pub mod Bounds
 pub mod Closing
+pub mod Day
+pub mod Edges
+pub mod Examples

@@ -8,3 +8,7 @@ pub mod History
 pub mod WholeRun
 pub mod Closing
 pub mod Bounds
+pub mod Scripts
+pub mod Day
+pub mod Edges
+pub mod Examples

@@ -1,0 +1,703 @@
+-- Scripts: calls from the fresh state with the answers that document 01 gives, worked by hand, and readings of the state between them.
+-- Every kind is accepted in them, on both sides where it has one, and every kind is refused with each code that the paper lets it have,
+-- by each of the code's causes. Where two refusals hold at once, the lower number is answered.
+use Prim.Native.Nat.{ℕ}
+use mathlib.Core.Bool.{Bool, true, false, _||_, _&&_}
+use mathlib.Core.List.{List, [], _∷_, _++_}
+use lib.Dec.{eqb}
+use Rattle.model.specs.declared.call.Call.{Call}
+use Rattle.model.specs.declared.call.Call.the-variants.{Deposit, Withdraw, Order, Cancel, Open, Enter, Match, Bid, Settle, Claim}
+use Rattle.model.specs.Scripts.{Line, accepted, refused, balance-is, supply-is, residue-is, closed-is, callsOf, Accounts, accounts}
+
+-- Deposit and withdraw: new balances, the last member and the last token, a token's supply up to its largest, and a balance down to 0.
+unfoldable pub balancesMoved : List Line
+balancesMoved =
+    accepted (Deposit 0 0 1000) 1000 0
+    ∷ accepted (Deposit 0 0 500) 1500 0
+    ∷ accepted (Deposit 15 3 7) 7 0
+    ∷ refused (Deposit 16 0 1) 1
+    ∷ refused (Deposit 0 4 1) 2
+    ∷ refused (Deposit 0 0 0) 6
+    -- several at once: 1, 2 and 6; 2 and 6
+    ∷ refused (Deposit 16 4 0) 1
+    ∷ refused (Deposit 0 4 0) 2
+    -- 14 counts all members' deposits of the one token
+    ∷ accepted (Deposit 3 1 4294967294) 4294967294 0
+    ∷ accepted (Deposit 4 1 1) 1 0
+    ∷ supply-is 1 4294967295
+    ∷ refused (Deposit 5 1 1) 14
+    ∷ refused (Deposit 3 1 4294967295) 14
+    -- 1 and 14
+    ∷ refused (Deposit 16 1 1) 1
+    -- nothing is deposited, so 6 and not 14
+    ∷ refused (Deposit 5 1 0) 6
+    ∷ accepted (Deposit 5 2 4294967295) 4294967295 0
+    -- a withdrawal makes room
+    ∷ accepted (Withdraw 3 1 2) 4294967292 0
+    ∷ supply-is 1 4294967293
+    ∷ refused (Deposit 5 1 3) 14
+    ∷ accepted (Deposit 5 1 2) 2 0
+    ∷ refused (Withdraw 16 0 1) 1
+    ∷ refused (Withdraw 0 4 1) 2
+    ∷ refused (Withdraw 0 0 0) 6
+    ∷ refused (Withdraw 0 0 1501) 19
+    ∷ refused (Withdraw 1 0 1) 19
+    -- 1, 2 and 6; 2 and 19; 1 and 19
+    ∷ refused (Withdraw 16 4 0) 1
+    ∷ refused (Withdraw 0 4 1501) 2
+    ∷ refused (Withdraw 16 0 1501) 1
+    ∷ accepted (Withdraw 0 0 1) 1499 0
+    ∷ accepted (Withdraw 0 0 1499) 0 0
+    ∷ refused (Withdraw 0 0 1) 19
+    ∷ accepted (Withdraw 15 3 7) 0 0
+    ∷ balance-is 15 3 0
+    ∷ supply-is 3 0
+    ∷ supply-is 0 0
+    ∷ []
+
+-- Order and cancel: a buy offers quote, a sell its market's base; the last ticket, member and market, the lowest and the highest limit.
+unfoldable pub ordersRested : List Line
+ordersRested =
+    accepted (Deposit 0 0 1000) 1000 0
+    ∷ accepted (Deposit 15 2 50) 50 0
+    ∷ accepted (Order 0 0 1 0 3000000 600) 600 0
+    ∷ balance-is 0 0 400
+    ∷ accepted (Order 63 15 2 1 2000000000 20) 20 0
+    ∷ balance-is 15 2 30
+    -- the whole balance
+    ∷ accepted (Order 1 15 2 1 1 30) 30 0
+    ∷ balance-is 15 2 0
+    ∷ accepted (Order 2 0 3 0 1 1) 1 0
+    ∷ balance-is 0 0 399
+    ∷ refused (Order 3 16 1 0 1 1) 1
+    ∷ refused (Order 3 0 0 0 1 1) 3
+    ∷ refused (Order 3 0 4 0 1 1) 3
+    ∷ refused (Order 64 0 1 0 1 1) 4
+    ∷ refused (Order 3 0 1 2 1 1) 5
+    -- 6 by the amount, by a limit of 0, by a limit above 2,000,000,000
+    ∷ refused (Order 3 0 1 0 1 0) 6
+    ∷ refused (Order 3 0 1 0 0 1) 6
+    ∷ refused (Order 3 0 1 0 2000000001 1) 6
+    ∷ refused (Order 0 0 1 0 1 1) 7
+    -- 19 of a buy and of a sell; a sell looks at base only, a buy at quote only
+    ∷ refused (Order 3 0 1 0 1 400) 19
+    ∷ refused (Order 3 15 2 1 1 1) 19
+    ∷ refused (Order 3 0 1 1 1 1) 19
+    ∷ refused (Order 3 15 2 0 1 1) 19
+    -- 1, 3, 4, 5 and 6, then each time one less; 6 and 7; 7 and 19
+    ∷ refused (Order 64 16 4 2 0 0) 1
+    ∷ refused (Order 64 0 4 2 0 0) 3
+    ∷ refused (Order 64 0 1 2 0 0) 4
+    ∷ refused (Order 3 0 1 2 0 0) 5
+    ∷ refused (Order 0 0 1 0 0 1) 6
+    ∷ refused (Order 0 0 1 0 1 400) 7
+    ∷ refused (Cancel 0 16) 1
+    ∷ refused (Cancel 64 0) 4
+    -- 8 by a free ticket, and by another's
+    ∷ refused (Cancel 3 0) 8
+    ∷ refused (Cancel 0 1) 8
+    -- 1 and 4; 1 and 8
+    ∷ refused (Cancel 64 16) 1
+    ∷ refused (Cancel 3 16) 1
+    ∷ accepted (Cancel 0 0) 600 0
+    ∷ balance-is 0 0 999
+    ∷ refused (Cancel 0 0) 8
+    ∷ accepted (Cancel 63 15) 20 0
+    ∷ balance-is 15 2 20
+    -- a freed ticket takes another's order
+    ∷ accepted (Order 0 15 2 1 5 20) 20 0
+    ∷ refused (Cancel 0 0) 8
+    ∷ refused (Order 0 0 1 0 1 1) 7
+    ∷ accepted (Cancel 0 15) 20 0
+    ∷ []
+
+-- Open, enter and match: r, w and L at their ends, limits that just meet hi and lo, and a match at once when its 4 blocks are over.
+unfoldable pub collected : List Line
+collected =
+    accepted (Deposit 0 0 2000) 2000 0
+    ∷ accepted (Deposit 1 1 500) 500 0
+    ∷ accepted (Order 0 0 1 0 2750000 600) 600 0
+    ∷ accepted (Order 1 0 1 0 2749999 100) 100 0
+    ∷ accepted (Order 2 1 1 1 2250000 300) 300 0
+    ∷ accepted (Order 3 1 1 1 2250001 100) 100 0
+    ∷ accepted (Order 4 0 2 0 2000000000 50) 50 0
+    ∷ accepted (Order 63 0 1 0 3000000 7) 7 0
+    ∷ refused (Enter 0) 11
+    ∷ refused (Match 1 10) 11
+    ∷ refused (Open 0 10 2500000 100000 10) 3
+    ∷ refused (Open 4 10 2500000 100000 10) 3
+    -- 10 by r, by w, by L
+    ∷ refused (Open 1 10 0 100000 10) 10
+    ∷ refused (Open 1 10 1000000001 100000 10) 10
+    ∷ refused (Open 1 10 2500000 500001 10) 10
+    ∷ refused (Open 1 10 2500000 100000 0) 10
+    ∷ refused (Open 1 10 2500000 100000 65) 10
+    -- 3 and 10
+    ∷ refused (Open 4 10 0 500001 65) 3
+    -- hi 2,500,000 × 1.1, lo 2,500,000 × 0.9
+    ∷ accepted (Open 1 10 2500000 100000 10) 2750000 2250000
+    ∷ refused (Open 1 10 2500000 100000 10) 11
+    ∷ refused (Open 2 9 2500000 100000 10) 12
+    -- 10, 11 and 12; 11 and 12
+    ∷ refused (Open 1 9 2500000 100000 65) 10
+    ∷ refused (Open 1 9 2500000 100000 10) 11
+    -- at the last block itself; the largest terms
+    ∷ accepted (Open 3 10 1000000000 500000 64) 1500000000 500000000
+    ∷ refused (Enter 64) 4
+    ∷ refused (Enter 5) 8
+    -- its own market is closed
+    ∷ refused (Enter 4) 11
+    -- 15: a buy's limit 1 below hi, a sell's 1 above lo
+    ∷ refused (Enter 1) 15
+    ∷ refused (Enter 3) 15
+    ∷ accepted (Enter 0) 600 0
+    ∷ refused (Enter 0) 9
+    ∷ accepted (Enter 63) 607 0
+    ∷ accepted (Enter 2) 300 0
+    ∷ refused (Cancel 0 0) 9
+    -- 8 and 9
+    ∷ refused (Cancel 0 1) 8
+    ∷ refused (Claim 0) 11
+    ∷ refused (Bid 1 0 14 1 1 1000) 11
+    ∷ refused (Settle 1 500) 11
+    ∷ refused (Match 0 14) 3
+    ∷ refused (Match 4 14) 3
+    ∷ refused (Match 2 14) 11
+    ∷ refused (Match 1 9) 12
+    ∷ refused (Match 1 10) 13
+    ∷ refused (Match 1 13) 13
+    -- 3, 11, 12 and 13; 11, 12 and 13
+    ∷ refused (Match 4 9) 3
+    ∷ refused (Match 2 9) 11
+    -- Q 607, S 300: 607 / 2.5 is 242.8, m 242; c 242 × 2.5
+    ∷ accepted (Match 1 14) 242 605
+    ∷ refused (Match 1 14) 11
+    ∷ refused (Open 2 13 2500000 100000 10) 12
+    -- 9 and 11; 11 and 15
+    ∷ refused (Enter 0) 9
+    ∷ refused (Enter 1) 11
+    ∷ refused (Claim 0) 11
+    -- a round without tickets
+    ∷ accepted (Match 3 14) 0 0
+    ∷ closed-is 3 false
+    ∷ accepted (Settle 3 14) 0 0
+    ∷ closed-is 3 true
+    ∷ closed-is 1 false
+    ∷ accepted (Open 3 14 3 500000 1) 4 2
+    ∷ []
+
+-- Makers take base left by the sells: hi 2,750,000, lo 2,250,000, L 7, 60 base left. A settle after L, a claim with a rest, a claim in
+-- full, and a cancel of what a partly paid ticket has left.
+unfoldable pub baseSold : List Line
+baseSold =
+    accepted (Deposit 0 0 1000) 1000 0
+    ∷ accepted (Deposit 1 1 300) 300 0
+    ∷ accepted (Deposit 2 0 500) 500 0
+    ∷ accepted (Deposit 3 1 500) 500 0
+    ∷ accepted (Order 0 0 1 0 3000000 600) 600 0
+    ∷ accepted (Order 1 1 1 1 2000000 300) 300 0
+    ∷ accepted (Open 1 10 2500000 100000 7) 2750000 2250000
+    ∷ accepted (Enter 0) 600 0
+    ∷ accepted (Enter 1) 300 0
+    -- Q 600, S 300: 600 / 2.5 is 240
+    ∷ accepted (Match 1 14) 240 600
+    ∷ refused (Bid 1 16 19 1 60 500) 1
+    ∷ refused (Bid 0 2 19 1 60 500) 3
+    ∷ refused (Bid 4 2 19 1 60 500) 3
+    ∷ refused (Bid 1 2 19 2 60 500) 5
+    ∷ refused (Bid 1 2 19 1 0 500) 6
+    ∷ refused (Bid 2 2 19 1 60 500) 11
+    ∷ refused (Bid 1 2 13 1 60 500) 12
+    ∷ refused (Bid 1 2 22 1 60 500) 16
+    ∷ refused (Bid 1 2 19 1 61 500) 17
+    -- k 5: 500,000 × 5 / 7 is 357,142.86, the price 2,392,858; 60 × 2.392858 is 143.57, up 144
+    ∷ refused (Bid 1 2 19 1 60 143) 18
+    -- member 3 has base, and no quote
+    ∷ refused (Bid 1 3 19 1 60 144) 19
+    -- several at once, from 1 up, each time without the first
+    ∷ refused (Bid 0 16 13 2 0 0) 1
+    ∷ refused (Bid 0 3 13 2 0 0) 3
+    ∷ refused (Bid 2 3 13 2 0 0) 5
+    ∷ refused (Bid 2 3 13 1 0 0) 6
+    ∷ refused (Bid 2 3 13 1 61 0) 11
+    ∷ refused (Bid 1 3 13 1 61 0) 12
+    ∷ refused (Bid 1 3 22 1 61 0) 16
+    ∷ refused (Bid 1 3 21 1 61 0) 17
+    ∷ refused (Bid 1 3 21 1 60 134) 18
+    -- refusals left the last block at 14. k 0: 10 × 2.75 is 27.5, up 28, the bound just met
+    ∷ accepted (Bid 1 2 14 1 10 28) 10 28
+    ∷ balance-is 2 0 472
+    ∷ balance-is 2 1 10
+    -- k 3: 500,000 × 3 / 7 is 214,285.7, the price 2,535,715; 28 × 2.535715 is 71.00002, up 72
+    ∷ refused (Bid 1 2 17 1 28 71) 18
+    ∷ accepted (Bid 1 2 17 1 28 500) 28 72
+    -- k 7 = L: 10 × 2.25 is 22.5, up 23; the maker has a ticket in the round
+    ∷ accepted (Bid 1 0 21 1 10 23) 10 23
+    ∷ refused (Bid 1 2 21 1 13 500) 17
+    -- 12 base left, no quote left
+    ∷ refused (Settle 1 21) 13
+    ∷ refused (Settle 0 21) 3
+    ∷ refused (Settle 4 21) 3
+    ∷ refused (Settle 2 21) 11
+    -- 12 and 13; 3, 11 and 12; 11 and 12
+    ∷ refused (Settle 1 20) 12
+    ∷ refused (Settle 4 20) 3
+    ∷ refused (Settle 2 20) 11
+    -- k 8 > L. Quote paid by buys 600, base paid by sells 240 + 48
+    ∷ accepted (Settle 1 22) 600 288
+    ∷ refused (Settle 1 22) 11
+    ∷ refused (Bid 1 2 22 1 1 500) 11
+    ∷ refused (Match 1 22) 11
+    ∷ refused (Open 1 22 2500000 100000 7) 11
+    ∷ refused (Enter 0) 9
+    ∷ refused (Cancel 1 1) 9
+    ∷ refused (Claim 64) 4
+    ∷ refused (Claim 5) 8
+    -- T 300, P 288, G 600 + 28 + 72 + 23
+    ∷ accepted (Claim 1) 288 723
+    ∷ balance-is 1 0 723
+    ∷ closed-is 1 false
+    ∷ refused (Claim 1) 9
+    ∷ refused (Enter 1) 11
+    -- T 600, P 600, G 240: the ticket is free
+    ∷ accepted (Claim 0) 600 240
+    ∷ closed-is 1 true
+    ∷ refused (Claim 0) 8
+    -- 9 and 11
+    ∷ refused (Claim 1) 9
+    ∷ accepted (Cancel 1 1) 12 0
+    ∷ balance-is 1 1 12
+    ∷ balance-is 0 0 377
+    ∷ balance-is 0 1 250
+    ∷ balance-is 2 0 400
+    ∷ balance-is 2 1 38
+    ∷ residue-is 0 0
+    ∷ residue-is 1 0
+    ∷ []
+
+-- Makers take quote left by the buys, in market 2: hi 2,750,000, lo 2,250,000, L 7, 500 quote left. What rounding leaves goes into the
+-- residue with the last claim, and not before.
+unfoldable pub quoteSold : List Line
+quoteSold =
+    accepted (Deposit 15 0 600) 600 0
+    ∷ accepted (Deposit 1 2 40) 40 0
+    ∷ accepted (Deposit 2 2 300) 300 0
+    ∷ accepted (Deposit 3 0 50) 50 0
+    ∷ accepted (Order 10 15 2 0 2750000 200) 200 0
+    ∷ accepted (Order 63 15 2 0 2750000 300) 300 0
+    ∷ accepted (Order 12 15 2 0 2750000 100) 100 0
+    ∷ accepted (Order 13 1 2 1 2250000 40) 40 0
+    ∷ accepted (Open 2 100 2500000 100000 7) 2750000 2250000
+    ∷ accepted (Enter 10) 200 0
+    ∷ accepted (Enter 63) 500 0
+    ∷ accepted (Enter 12) 600 0
+    ∷ accepted (Enter 13) 40 0
+    -- Q 600, S 40: m 40, c 40 × 2.5
+    ∷ accepted (Match 2 104) 40 100
+    -- no base left
+    ∷ refused (Bid 2 2 104 1 1 4294967295) 17
+    -- k 0: 10 × 2.25 is 22.5, down 22
+    ∷ refused (Bid 2 2 104 0 10 23) 18
+    -- member 3 has quote, and no base
+    ∷ refused (Bid 2 3 104 0 10 22) 19
+    -- 18 and 19
+    ∷ refused (Bid 2 3 104 0 10 23) 18
+    -- 223 × 2.25 is 501.75, down 501: 17, 18 and 19
+    ∷ refused (Bid 2 3 104 0 223 502) 17
+    ∷ accepted (Bid 2 2 104 0 10 22) 10 22
+    ∷ balance-is 2 0 22
+    ∷ balance-is 2 2 290
+    -- k 3: 500,000 × 3 / 7 is 214,285.7, the price 2,464,285; 28 × 2.464285 is 68.99998, down 68
+    ∷ refused (Bid 2 2 107 0 28 69) 18
+    ∷ accepted (Bid 2 2 107 0 28 68) 28 68
+    -- k 7 = L: 10 × 2.75 is 27.5, down 27
+    ∷ accepted (Bid 2 2 111 0 10 0) 10 27
+    -- 383 left: 140 × 2.75 is 385, 139 × 2.75 is 382.25
+    ∷ refused (Bid 2 2 111 0 140 0) 17
+    ∷ accepted (Bid 2 2 111 0 139 0) 139 382
+    -- 1 quote left, no base left
+    ∷ refused (Bid 2 2 111 0 1 0) 17
+    ∷ refused (Settle 2 111) 13
+    -- 16 and 17
+    ∷ refused (Bid 2 2 112 0 1 0) 16
+    -- quote paid by buys 100 + 22 + 68 + 27 + 382, base paid by sells 40
+    ∷ accepted (Settle 2 112) 599 40
+    ∷ balance-is 2 0 499
+    ∷ balance-is 2 2 113
+    ∷ residue-is 0 0
+    ∷ residue-is 2 0
+    -- buys: T 600, P 599, G 40 + 187. 200 × 599 / 600 is 199.7, 200 × 227 / 600 is 75.7
+    ∷ accepted (Claim 10) 200 75
+    ∷ accepted (Claim 13) 40 100
+    -- 99.8 and 37.8
+    ∷ accepted (Claim 12) 100 37
+    ∷ residue-is 0 0
+    ∷ residue-is 2 0
+    ∷ closed-is 2 false
+    -- 299.5 and 113.5
+    ∷ accepted (Claim 63) 300 113
+    -- 600 - 499 - 100 quote, 40 + 187 - 225 base
+    ∷ residue-is 0 1
+    ∷ residue-is 1 0
+    ∷ residue-is 2 2
+    ∷ closed-is 2 true
+    ∷ balance-is 15 0 0
+    ∷ balance-is 15 2 225
+    ∷ balance-is 1 0 100
+    ∷ refused (Cancel 10 15) 8
+    ∷ refused (Open 2 111 2500000 100000 7) 12
+    ∷ accepted (Open 2 112 1 0 1) 1 1
+    ∷ []
+
+-- Two rounds of market 1. In the first, two buys share what one sell gives.
+unfoldable pub firstRound : List Line
+firstRound =
+    accepted (Deposit 0 0 1000) 1000 0
+    ∷ accepted (Deposit 2 0 50) 50 0
+    ∷ accepted (Deposit 1 1 100) 100 0
+    ∷ accepted (Order 5 0 1 0 3000000 1000) 1000 0
+    ∷ accepted (Order 7 2 1 0 2999999 50) 50 0
+    ∷ accepted (Order 6 1 1 1 1500000 100) 100 0
+    ∷ accepted (Open 1 20 2000000 250000 1) 2500000 1500000
+    ∷ accepted (Enter 5) 1000 0
+    ∷ accepted (Enter 7) 1050 0
+    ∷ accepted (Enter 6) 100 0
+    ∷ accepted (Match 1 24) 100 200
+    -- quote left, no base left, k 0 and k 1 = L
+    ∷ refused (Settle 1 24) 13
+    ∷ refused (Settle 1 25) 13
+    ∷ accepted (Settle 1 26) 200 100
+    -- buys: T 1050, P 200, G 100. 190.5 and 95.2, 9.5 and 4.8
+    ∷ accepted (Claim 5) 191 95
+    ∷ accepted (Claim 6) 100 200
+    ∷ residue-is 0 0
+    ∷ residue-is 1 0
+    ∷ accepted (Claim 7) 10 4
+    -- 1050 - 809 - 40 - 200 quote, 100 - 99 base
+    ∷ residue-is 0 1
+    ∷ residue-is 1 1
+    ∷ []
+
+-- In the second, hi and lo are 3,000,000: ticket 5 enters again with the 809 that it has left, ticket 7's limit is below hi.
+unfoldable pub secondRound : List Line
+secondRound =
+    accepted (Deposit 1 1 70) 70 0
+    ∷ accepted (Deposit 3 1 10) 10 0
+    ∷ accepted (Order 6 1 1 1 3000000 70) 70 0
+    ∷ accepted (Open 1 26 3000000 0 64) 3000000 3000000
+    ∷ accepted (Enter 5) 809 0
+    ∷ refused (Enter 7) 15
+    ∷ accepted (Cancel 7 2) 40 0
+    ∷ accepted (Order 8 2 1 0 3000000 33) 33 0
+    ∷ accepted (Enter 8) 842 0
+    ∷ accepted (Enter 6) 70 0
+    ∷ accepted (Match 1 30) 70 210
+    -- k 64 = L
+    ∷ accepted (Bid 1 3 94 0 3 9) 3 9
+    ∷ refused (Settle 1 94) 13
+    ∷ refused (Bid 1 3 95 0 3 9) 16
+    ∷ accepted (Settle 1 95) 219 70
+    ∷ []
+
+-- Its claims, and its residue joins the first's.
+unfoldable pub secondPaid : List Line
+secondPaid =
+    -- buys: T 842, P 219, G 73. 809 × 219 / 842 is 210.4, 809 × 73 / 842 is 70.1; 33 × 219 / 842 is 8.6, 33 × 73 / 842 is 2.9
+    accepted (Claim 5) 211 70
+    ∷ accepted (Claim 8) 9 2
+    ∷ residue-is 0 1
+    ∷ residue-is 1 1
+    ∷ accepted (Claim 6) 70 210
+    -- 842 - 9 - 598 - 24 - 210 quote and 73 - 72 base more
+    ∷ residue-is 0 2
+    ∷ residue-is 1 2
+    ∷ closed-is 1 true
+    ∷ accepted (Cancel 5 0) 598 0
+    ∷ accepted (Cancel 8 2) 24 0
+    ∷ balance-is 0 0 598
+    ∷ balance-is 0 1 165
+    ∷ balance-is 1 0 410
+    ∷ balance-is 2 0 31
+    ∷ balance-is 2 1 6
+    ∷ balance-is 3 0 9
+    ∷ balance-is 3 1 7
+    ∷ []
+
+abbrev pub twoRounds : List Line
+twoRounds = firstRound ++ secondRound ++ secondPaid
+
+-- In market 3 the match is dropped, makers take all that both sides left, and the round is settled before k > L because nothing is left.
+unfoldable pub bothSidesSold : List Line
+bothSidesSold =
+    accepted (Deposit 15 0 100) 100 0
+    ∷ accepted (Deposit 1 3 3) 3 0
+    ∷ accepted (Deposit 2 0 8) 8 0
+    ∷ accepted (Deposit 4 3 40) 40 0
+    ∷ accepted (Order 63 15 3 0 2500000 100) 100 0
+    ∷ accepted (Order 0 1 3 1 2500000 3) 3 0
+    ∷ accepted (Open 3 7 2500000 0 1) 2500000 2500000
+    ∷ accepted (Enter 63) 100 0
+    ∷ accepted (Enter 0) 3 0
+    -- m 3, c 7.5 up 8, and 8,000,000 > 2,500,000 × 3
+    ∷ accepted (Match 3 11) 0 0
+    ∷ refused (Settle 3 11) 13
+    -- 3 × 2.5 is 7.5, up 8: the maker's whole quote for all base left
+    ∷ accepted (Bid 3 2 11 1 3 8) 3 8
+    ∷ balance-is 2 0 0
+    ∷ balance-is 2 3 3
+    -- quote left on the buys' side only
+    ∷ refused (Settle 3 11) 13
+    -- 40 × 2.5 is 100: the maker's whole base for all quote left, at k 1 = L
+    ∷ accepted (Bid 3 4 12 0 40 100) 40 100
+    ∷ balance-is 4 3 0
+    ∷ balance-is 4 0 100
+    -- nothing left, k 1 = L
+    ∷ accepted (Settle 3 12) 100 3
+    ∷ accepted (Claim 63) 100 40
+    ∷ accepted (Claim 0) 3 8
+    ∷ closed-is 3 true
+    ∷ residue-is 0 0
+    ∷ residue-is 3 0
+    ∷ balance-is 15 3 40
+    ∷ balance-is 1 0 8
+    ∷ refused (Cancel 63 15) 8
+    ∷ []
+
+-- A claim where nothing was sold gives the whole offer back to the ticket. A quote above every number is 18 for side 1 and 17 for side 0.
+-- At the last block a match is never 4 blocks after its open.
+unfoldable pub nothingSold : List Line
+nothingSold =
+    accepted (Deposit 1 1 4000000000) 4000000000 0
+    ∷ accepted (Deposit 2 0 4294967295) 4294967295 0
+    ∷ accepted (Deposit 2 1 294967295) 294967295 0
+    ∷ accepted (Order 0 1 1 1 2000000 4000000000) 4000000000 0
+    ∷ accepted (Open 1 0 2000000 0 64) 2000000 2000000
+    ∷ accepted (Enter 0) 4000000000 0
+    ∷ refused (Claim 0) 11
+    ∷ accepted (Match 1 4) 0 0
+    ∷ refused (Claim 0) 11
+    -- 4,000,000,000 base at 2 cost 8,000,000,000
+    ∷ refused (Bid 1 2 4 1 4000000000 4294967295) 18
+    ∷ refused (Bid 1 2 4 1 4000000001 4294967295) 17
+    -- 4,294,967,295 base at 2 bring 8,589,934,590
+    ∷ refused (Bid 1 2 4 0 4294967295 0) 17
+    ∷ refused (Settle 1 68) 13
+    ∷ accepted (Settle 1 69) 0 0
+    ∷ accepted (Claim 0) 0 0
+    ∷ closed-is 1 true
+    ∷ residue-is 1 0
+    ∷ balance-is 1 1 0
+    ∷ refused (Claim 0) 9
+    ∷ refused (Enter 0) 11
+    ∷ accepted (Cancel 0 1) 4000000000 0
+    ∷ balance-is 1 1 4000000000
+    ∷ accepted (Open 1 4294967295 2000000 0 64) 2000000 2000000
+    ∷ refused (Match 1 4294967294) 12
+    ∷ refused (Match 1 4294967295) 13
+    ∷ []
+
+-- Sells of 100, 100 and 101 base share 200 quote for 80 base: T 301, P 80, G 200.
+unfoldable pub threeSells : List Line
+threeSells =
+    accepted (Deposit 0 0 200) 200 0
+    ∷ accepted (Deposit 1 1 301) 301 0
+    ∷ accepted (Order 0 0 1 0 2500000 200) 200 0
+    ∷ accepted (Order 1 1 1 1 2500000 100) 100 0
+    ∷ accepted (Order 2 1 1 1 2500000 100) 100 0
+    ∷ accepted (Order 3 1 1 1 2500000 101) 101 0
+    ∷ accepted (Open 1 10 2500000 0 10) 2500000 2500000
+    ∷ accepted (Enter 1) 100 0
+    ∷ accepted (Enter 0) 200 0
+    ∷ accepted (Enter 2) 200 0
+    ∷ accepted (Enter 3) 301 0
+    ∷ accepted (Match 1 14) 80 200
+    -- base left, no quote left
+    ∷ refused (Settle 1 14) 13
+    ∷ accepted (Settle 1 25) 200 80
+    -- 26.6 and 66.4; 26.8 and 67.1
+    ∷ accepted (Claim 1) 27 66
+    ∷ accepted (Claim 3) 27 67
+    ∷ accepted (Claim 0) 200 80
+    ∷ accepted (Claim 2) 27 66
+    -- 200 - 199 quote, 301 - 73 - 74 - 73 - 80 base
+    ∷ residue-is 0 1
+    ∷ residue-is 1 1
+    ∷ closed-is 1 true
+    ∷ accepted (Cancel 3 1) 74 0
+    ∷ accepted (Cancel 1 1) 73 0
+    ∷ accepted (Cancel 2 1) 73 0
+    ∷ balance-is 1 0 199
+    ∷ balance-is 1 1 220
+    ∷ balance-is 0 1 80
+    ∷ []
+
+-- Matches whose c is rounded up, in three markets at once: it just meets hi and stands, it passes hi and is dropped, it stays below hi. A
+-- match that leaves nothing is settled in its own block.
+unfoldable pub matchesBounded : List Line
+matchesBounded =
+    accepted (Deposit 0 0 104) 104 0
+    ∷ accepted (Deposit 1 1 1) 1 0
+    ∷ accepted (Deposit 1 2 1) 1 0
+    ∷ accepted (Deposit 1 3 3) 3 0
+    ∷ accepted (Order 0 0 1 0 2000000 2) 2 0
+    ∷ accepted (Order 1 1 1 1 1200000 1) 1 0
+    ∷ accepted (Order 2 0 2 0 2000000 2) 2 0
+    ∷ accepted (Order 3 1 2 1 1200000 1) 1 0
+    ∷ accepted (Order 4 0 3 0 2750000 100) 100 0
+    ∷ accepted (Order 5 1 3 1 2250000 3) 3 0
+    ∷ accepted (Open 1 0 1600000 250000 1) 2000000 1200000
+    -- 1,999,998.4 down, 1,200,001.6 up
+    ∷ accepted (Open 2 0 1600000 249999 1) 1999998 1200002
+    ∷ accepted (Open 3 0 2500000 100000 1) 2750000 2250000
+    ∷ accepted (Enter 0) 2 0
+    ∷ accepted (Enter 1) 1 0
+    ∷ accepted (Enter 2) 2 0
+    ∷ accepted (Enter 3) 1 0
+    ∷ accepted (Enter 4) 100 0
+    ∷ accepted (Enter 5) 3 0
+    -- c 1.6 up 2: 2,000,000 is not above hi × 1
+    ∷ accepted (Match 1 4) 1 2
+    -- 2,000,000 is above 1,999,998
+    ∷ accepted (Match 2 4) 0 0
+    -- c 7.5 up 8: 8,000,000 is not above 2,750,000 × 3
+    ∷ accepted (Match 3 4) 3 8
+    ∷ accepted (Settle 1 4) 2 1
+    -- market 1 is paying, and market 3 is not
+    ∷ refused (Claim 4) 11
+    ∷ refused (Settle 2 4) 13
+    ∷ refused (Settle 3 5) 13
+    ∷ accepted (Settle 2 6) 0 0
+    ∷ accepted (Settle 3 6) 8 3
+    ∷ accepted (Claim 4) 8 3
+    ∷ accepted (Claim 2) 0 0
+    ∷ accepted (Claim 1) 1 2
+    ∷ accepted (Claim 5) 3 8
+    ∷ accepted (Claim 3) 0 0
+    ∷ accepted (Claim 0) 2 1
+    ∷ closed-is 1 true
+    ∷ closed-is 2 true
+    ∷ closed-is 3 true
+    ∷ refused (Cancel 4 1) 8
+    ∷ accepted (Cancel 4 0) 92 0
+    ∷ accepted (Cancel 2 0) 2 0
+    ∷ accepted (Cancel 3 1) 1 0
+    ∷ balance-is 0 0 94
+    ∷ balance-is 1 0 10
+    ∷ residue-is 0 0
+    ∷ []
+
+-- At a price of 0.4 two base bring 0 quote, which is 17, and three bring 1. The bids take all quote, so the settle is early.
+unfoldable pub quoteOfNothing : List Line
+quoteOfNothing =
+    accepted (Deposit 0 0 5) 5 0
+    ∷ accepted (Deposit 15 1 20) 20 0
+    ∷ accepted (Order 0 0 1 0 400000 5) 5 0
+    ∷ accepted (Open 1 3 400000 0 10) 400000 400000
+    ∷ accepted (Enter 0) 5 0
+    ∷ accepted (Match 1 7) 0 0
+    ∷ refused (Bid 1 15 7 0 2 0) 17
+    -- 17 and 18
+    ∷ refused (Bid 1 15 7 0 2 1) 17
+    ∷ accepted (Bid 1 15 7 0 3 1) 3 1
+    -- 13 × 0.4 is 5.2, and 4 are left; 12 × 0.4 is 4.8
+    ∷ refused (Bid 1 15 7 0 13 4) 17
+    ∷ refused (Settle 1 7) 13
+    ∷ accepted (Bid 1 15 8 0 12 4) 12 4
+    ∷ accepted (Settle 1 8) 5 0
+    ∷ accepted (Claim 0) 5 15
+    ∷ closed-is 1 true
+    ∷ balance-is 0 1 15
+    ∷ balance-is 15 0 5
+    ∷ balance-is 15 1 5
+    ∷ residue-is 0 0
+    ∷ residue-is 1 0
+    ∷ []
+
+-- ---- the numbers of a whole run on the two rounds
+
+-- market 1's second round is settled here
+abbrev pub secondSettled : List Call
+secondSettled = callsOf (firstRound ++ secondRound)
+
+-- a token's balances, resting offers, what rounds hold, residue, withdrawals, deposits
+unfoldable pub twoRoundsAccounts : List Accounts
+twoRoundsAccounts =
+    -- the round holds 842 - 9 quote and 70 + 3 base
+    accounts secondSettled 0 216 0 833 1 0 1050
+    ∷ accounts secondSettled 1 106 0 73 1 0 180
+    ∷ accounts (callsOf twoRounds) 0 1048 0 0 2 0 1050
+    ∷ accounts (callsOf twoRounds) 1 178 0 0 2 0 180
+    ∷ []
+
+-- ---- what the scripts cover
+
+unfoldable pub scripts : List Line
+scripts =
+    balancesMoved
+    ++ ordersRested
+    ++ collected
+    ++ baseSold
+    ++ quoteSold
+    ++ twoRounds
+    ++ bothSidesSold
+    ++ nothingSold
+    ++ threeSells
+    ++ matchesBounded
+    ++ quoteOfNothing
+
+-- the kind numbers of "The ten calls, by kind number and fields"
+abbrev pub kindOf : Call → ℕ
+kindOf (Deposit member token n) = 1
+kindOf (Withdraw member token n) = 2
+kindOf (Order k member market side limit n) = 3
+kindOf (Cancel k member) = 4
+kindOf (Open market at r w len) = 5
+kindOf (Enter k) = 6
+kindOf (Match market at) = 7
+kindOf (Bid market member at side n bound) = 8
+kindOf (Settle market at) = 9
+kindOf (Claim k) = 10
+
+-- a kind, and the codes that it may have: 0, those of 1 to 5 whose field it has, and those that name it
+pub record Allowed : Type 0 where
+  pub kind : ℕ
+  pub codes : List ℕ
+
+abbrev pub may : ℕ → List ℕ → Allowed
+may kind codes = record { kind = kind; codes = codes }
+
+unfoldable pub allowed : List Allowed
+allowed =
+    may 1 (0 ∷ 1 ∷ 2 ∷ 6 ∷ 14 ∷ [])
+    ∷ may 2 (0 ∷ 1 ∷ 2 ∷ 6 ∷ 19 ∷ [])
+    ∷ may 3 (0 ∷ 1 ∷ 3 ∷ 4 ∷ 5 ∷ 6 ∷ 7 ∷ 19 ∷ [])
+    ∷ may 4 (0 ∷ 1 ∷ 4 ∷ 8 ∷ 9 ∷ [])
+    ∷ may 5 (0 ∷ 3 ∷ 10 ∷ 11 ∷ 12 ∷ [])
+    ∷ may 6 (0 ∷ 4 ∷ 8 ∷ 9 ∷ 11 ∷ 15 ∷ [])
+    ∷ may 7 (0 ∷ 3 ∷ 11 ∷ 12 ∷ 13 ∷ [])
+    ∷ may 8 (0 ∷ 1 ∷ 3 ∷ 5 ∷ 6 ∷ 11 ∷ 12 ∷ 16 ∷ 17 ∷ 18 ∷ 19 ∷ [])
+    ∷ may 9 (0 ∷ 3 ∷ 11 ∷ 12 ∷ 13 ∷ [])
+    ∷ may 10 (0 ∷ 4 ∷ 8 ∷ 9 ∷ 11 ∷ [])
+    ∷ []
+
+-- the line is a call of this kind with this code
+abbrev pub shows : (kind code : ℕ) → Line → Bool
+shows kind code (accepted c a b) = eqb (kindOf c) kind && eqb code 0
+shows kind code (refused c n) = eqb (kindOf c) kind && eqb code n
+shows kind code (balance-is m t n) = false
+shows kind code (supply-is t n) = false
+shows kind code (residue-is t n) = false
+shows kind code (closed-is m b) = false
+
+unfoldable pub shown : List Line → (kind code : ℕ) → Bool
+shown [] kind code = false
+shown (l ∷ ls) kind code = shows kind code l || shown ls kind code
+
+unfoldable pub allShown : List Line → ℕ → List ℕ → Bool
+allShown ls kind [] = true
+allShown ls kind (n ∷ ns) = shown ls kind n && allShown ls kind ns
+
+-- every allowed pair of kind and code occurs
+unfoldable pub covers : List Line → List Allowed → Bool
+covers ls [] = true
+covers ls (a ∷ as′) = allShown ls (a .kind) (a .codes) && covers ls as′
