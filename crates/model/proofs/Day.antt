@@ -18,32 +18,15 @@ use Rattle.model.specs.WholeRun.{restingTotal, roundsTotal, SettledTicke
 use Rattle.model.specs.Scripts.{requestsFrom, requests, historyAfter, logAfter, shareFrom, Accounts, workedAccounts, summed, depositsIn, MemberAccount, workedMember}
 use Rattle.model.specs.Day.{orders, collected, auctioned, paid, untilSettle, day, answersTo, printed, linesFrom, printedLines, roomAtOpen, shortAtOpen, refusedIn, dayAccounts, dayMembers}
 
--- the printed answers
-pub day-printed : answersTo (requests day) ≡ printed
-unfolding orders collected auctioned paid printed requestsFrom eventsOf stateAfter requestOf answerLine digits stepOf depositOf withdrawOf orderOf cancelOf openOf enterOf matchOf bidOf settleOf claimOf highBound lowBound matchBase matchQuote tradeWithin auctionPrice quoteFor sharePaid shareGot down up sumTo bit inserted removed countOf cellOf withCell creditedRow debitedRow rowOf withRow balanceIn credited debited freshLedger
+-- the printed answers; with 20 bytes for line 6 the day is the same, with 19 the line is 21 and nothing is opened; 21 goes before code 1 too
+pub day-printed : map answersTo (requests day ∷ roomAtOpen 20 ∷ roomAtOpen 19 ∷ refusedIn 8 ∷ refusedIn 7 ∷ []) ≡ printed ∷ printed ∷ shortAtOpen ∷ ((1, 0, 0) ∷ []) ∷ ((21, 0, 0) ∷ []) ∷ []
+unfolding orders collected auctioned paid printed shortAtOpen requestsFrom eventsOf stateAfter requestOf answerLine digits stepOf depositOf withdrawOf orderOf cancelOf openOf enterOf matchOf bidOf settleOf claimOf highBound lowBound matchBase matchQuote tradeWithin auctionPrice quoteFor sharePaid shareGot down up sumTo bit inserted removed countOf cellOf withCell creditedRow debitedRow rowOf withRow balanceIn credited debited freshLedger
 day-printed = refl
 
 -- and the printed bytes
 pub day-lines : linesFrom 1 (eventsOf requestOf freshExchange (requests day)) ≡ printedLines
 unfolding orders collected auctioned paid linesFrom printedLines requestsFrom eventsOf stateAfter requestOf answerLine digits stepOf depositOf withdrawOf orderOf cancelOf openOf enterOf matchOf bidOf settleOf claimOf highBound lowBound matchBase matchQuote tradeWithin auctionPrice quoteFor sharePaid shareGot down up sumTo bit inserted removed countOf cellOf withCell creditedRow debitedRow rowOf withRow balanceIn credited debited freshLedger
 day-lines = refl
-
--- with 20 bytes for line 6 the day is the same, with 19 the line is 21 and nothing is opened
-pub enough-room : answersTo (roomAtOpen 20) ≡ printed
-unfolding orders collected auctioned paid printed requestsFrom eventsOf stateAfter requestOf answerLine digits stepOf depositOf withdrawOf orderOf cancelOf openOf enterOf matchOf bidOf settleOf claimOf highBound lowBound matchBase matchQuote tradeWithin auctionPrice quoteFor sharePaid shareGot down up sumTo bit inserted removed countOf cellOf withCell creditedRow debitedRow rowOf withRow balanceIn credited debited freshLedger
-enough-room = refl
-
-pub short-room : answersTo (roomAtOpen 19) ≡ shortAtOpen
-unfolding orders collected auctioned paid shortAtOpen requestsFrom eventsOf stateAfter requestOf answerLine digits stepOf depositOf withdrawOf orderOf cancelOf openOf enterOf matchOf bidOf settleOf claimOf highBound lowBound matchBase matchQuote tradeWithin auctionPrice quoteFor sharePaid shareGot down up sumTo bit inserted removed countOf cellOf withCell creditedRow debitedRow rowOf withRow balanceIn credited debited freshLedger
-short-room = refl
-
-pub refusal-fits : answersTo (refusedIn 8) ≡ ((1, 0, 0) ∷ [])
-unfolding requestsFrom eventsOf stateAfter requestOf answerLine digits stepOf depositOf withdrawOf orderOf cancelOf openOf enterOf matchOf bidOf settleOf claimOf highBound lowBound matchBase matchQuote tradeWithin auctionPrice quoteFor sharePaid shareGot down up sumTo bit inserted removed countOf cellOf withCell creditedRow debitedRow rowOf withRow balanceIn credited debited freshLedger
-refusal-fits = refl
-
-pub refusal-short : answersTo (refusedIn 7) ≡ ((21, 0, 0) ∷ [])
-unfolding requestsFrom eventsOf stateAfter requestOf answerLine digits stepOf depositOf withdrawOf orderOf cancelOf openOf enterOf matchOf bidOf settleOf claimOf highBound lowBound matchBase matchQuote tradeWithin auctionPrice quoteFor sharePaid shareGot down up sumTo bit inserted removed countOf cellOf withCell creditedRow debitedRow rowOf withRow balanceIn credited debited freshLedger
-refusal-short = refl
 
 -- the theorem's numbers, and that they add up
 pub day-accounts : map workedAccounts dayAccounts ≡ dayAccounts
@@ -59,28 +42,24 @@ unfolding orders collected auctioned paid dayMembers workedMember requestsFrom e
 day-members = refl
 
 -- a market that has a round
-abbrev pub Running : Current → Type 0
-Running idle = ⊥
-Running (running b) = Unit {0}
+abbrev pub HasRound : Current → Type 0
+HasRound idle = ⊥
+HasRound (running b) = Unit {0}
 
-pub running-is : (c : Current) → Running c → c ≡ running (logOf c)
-running-is idle = elim [ ]
-running-is (running b) = λ e. refl
+pub has-round : (c : Current) → HasRound c → c ≡ running (logOf c)
+has-round idle = elim [ ]
+has-round (running b) = λ e. refl
 
 -- after line 11 tickets 0 and 1 are settled, so that the theorem's clause on settled tickets speaks of them
 pub buy-settled : SettledTicket (historyAfter untilSettle) 0 0 1 Buy 3000000 600 (logAfter untilSettle 1)
 unfolding orders collected auctioned paid requestsFrom eventsOf stateAfter requestOf answerLine digits stepOf depositOf withdrawOf orderOf cancelOf openOf enterOf matchOf bidOf settleOf claimOf highBound lowBound matchBase matchQuote tradeWithin auctionPrice quoteFor sharePaid shareGot down up sumTo bit inserted removed countOf cellOf withCell creditedRow debitedRow rowOf withRow balanceIn credited debited freshLedger sumOver only T P G cameIn wentOut holds waitingCount put withAccepted withEvent historyFrom totalIn restingTotal roundsTotal
-buy-settled = record { ticket-range = omega arith; market-low = omega arith; market-high = omega arith; round = running-is (historyAfter untilSettle .rounds 1) tt; stage = refl; part = refl }
+buy-settled = record { ticket-range = omega arith; market-low = omega arith; market-high = omega arith; round = has-round (historyAfter untilSettle .rounds 1) tt; stage = refl; part = refl }
 
 pub sell-settled : SettledTicket (historyAfter untilSettle) 1 1 1 Sell 2000000 300 (logAfter untilSettle 1)
 unfolding orders collected auctioned paid requestsFrom eventsOf stateAfter requestOf answerLine digits stepOf depositOf withdrawOf orderOf cancelOf openOf enterOf matchOf bidOf settleOf claimOf highBound lowBound matchBase matchQuote tradeWithin auctionPrice quoteFor sharePaid shareGot down up sumTo bit inserted removed countOf cellOf withCell creditedRow debitedRow rowOf withRow balanceIn credited debited freshLedger sumOver only T P G cameIn wentOut holds waitingCount put withAccepted withEvent historyFrom totalIn restingTotal roundsTotal
-sell-settled = record { ticket-range = omega arith; market-low = omega arith; market-high = omega arith; round = running-is (historyAfter untilSettle .rounds 1) tt; stage = refl; part = refl }
+sell-settled = record { ticket-range = omega arith; market-low = omega arith; market-high = omega arith; round = has-round (historyAfter untilSettle .rounds 1) tt; stage = refl; part = refl }
 
 -- and their shares, worked from history, are what lines 12 and 13 print
-pub buy-share : shareFrom (logAfter untilSettle 1) Buy 600 ≡ (600, 240)
+pub day-shares : (shareFrom (logAfter untilSettle 1) Buy 600 ∷ shareFrom (logAfter untilSettle 1) Sell 300 ∷ []) ≡ (600, 240) ∷ (300, 750) ∷ []
 unfolding orders collected auctioned paid requestsFrom eventsOf stateAfter requestOf answerLine digits stepOf depositOf withdrawOf orderOf cancelOf openOf enterOf matchOf bidOf settleOf claimOf highBound lowBound matchBase matchQuote tradeWithin auctionPrice quoteFor sharePaid shareGot down up sumTo bit inserted removed countOf cellOf withCell creditedRow debitedRow rowOf withRow balanceIn credited debited freshLedger sumOver only T P G cameIn wentOut holds waitingCount put withAccepted withEvent historyFrom totalIn restingTotal roundsTotal
-buy-share = refl
-
-pub sell-share : shareFrom (logAfter untilSettle 1) Sell 300 ≡ (300, 750)
-unfolding orders collected auctioned paid requestsFrom eventsOf stateAfter requestOf answerLine digits stepOf depositOf withdrawOf orderOf cancelOf openOf enterOf matchOf bidOf settleOf claimOf highBound lowBound matchBase matchQuote tradeWithin auctionPrice quoteFor sharePaid shareGot down up sumTo bit inserted removed countOf cellOf withCell creditedRow debitedRow rowOf withRow balanceIn credited debited freshLedger sumOver only T P G cameIn wentOut holds waitingCount put withAccepted withEvent historyFrom totalIn restingTotal roundsTotal
-sell-share = refl
+day-shares = refl

@@ -7,6 +7,7 @@ use mathlib.Core.List.{List, [], _∷_, _++_}
 use lib.Dec.{eqb}
 use Rattle.model.specs.declared.call.Call.{Call}
 use Rattle.model.specs.declared.call.Call.the-variants.{Deposit, Withdraw, Order, Cancel, Open, Enter, Match, Bid, Settle, Claim}
+use Rattle.model.specs.Codes.{codesOf}
 use Rattle.model.specs.Scripts.{Line, accepted, refused, balance-is, supply-is, residue-is, closed-is, callsOf, Accounts, accounts}
 
 -- Deposit and withdraw: new balances, the last member and the last token, a token's supply up to its largest, and a balance down to 0.
@@ -613,6 +614,23 @@ quoteOfNothing =
     ∷ residue-is 1 0
     ∷ []
 
+-- ---- all of them
+
+unfoldable pub examples : List (List Line)
+examples =
+    balancesMoved
+    ∷ ordersRested
+    ∷ collected
+    ∷ baseSold
+    ∷ quoteSold
+    ∷ twoRounds
+    ∷ bothSidesSold
+    ∷ nothingSold
+    ∷ threeSells
+    ∷ matchesBounded
+    ∷ quoteOfNothing
+    ∷ []
+
 -- ---- the numbers of a whole run on the two rounds
 
 -- market 1's second round is settled here
@@ -629,21 +647,7 @@ twoRoundsAccounts =
     ∷ accounts (callsOf twoRounds) 1 178 0 0 2 0 180
     ∷ []
 
--- ---- what the scripts cover
-
-unfoldable pub scripts : List Line
-scripts =
-    balancesMoved
-    ++ ordersRested
-    ++ collected
-    ++ baseSold
-    ++ quoteSold
-    ++ twoRounds
-    ++ bothSidesSold
-    ++ nothingSold
-    ++ threeSells
-    ++ matchesBounded
-    ++ quoteOfNothing
+-- ---- what the examples cover
 
 -- the kind numbers of "The ten calls, by kind number and fields"
 abbrev pub kindOf : Call → ℕ
@@ -658,26 +662,19 @@ kindOf (Bid market member at side n bound) = 8
 kindOf (Settle market at) = 9
 kindOf (Claim k) = 10
 
--- a kind, and the codes that it may have: 0, those of 1 to 5 whose field it has, and those that name it
-pub record Allowed : Type 0 where
-  pub kind : ℕ
-  pub codes : List ℕ
-
-abbrev pub may : ℕ → List ℕ → Allowed
-may kind codes = record { kind = kind; codes = codes }
-
-unfoldable pub allowed : List Allowed
-allowed =
-    may 1 (0 ∷ 1 ∷ 2 ∷ 6 ∷ 14 ∷ [])
-    ∷ may 2 (0 ∷ 1 ∷ 2 ∷ 6 ∷ 19 ∷ [])
-    ∷ may 3 (0 ∷ 1 ∷ 3 ∷ 4 ∷ 5 ∷ 6 ∷ 7 ∷ 19 ∷ [])
-    ∷ may 4 (0 ∷ 1 ∷ 4 ∷ 8 ∷ 9 ∷ [])
-    ∷ may 5 (0 ∷ 3 ∷ 10 ∷ 11 ∷ 12 ∷ [])
-    ∷ may 6 (0 ∷ 4 ∷ 8 ∷ 9 ∷ 11 ∷ 15 ∷ [])
-    ∷ may 7 (0 ∷ 3 ∷ 11 ∷ 12 ∷ 13 ∷ [])
-    ∷ may 8 (0 ∷ 1 ∷ 3 ∷ 5 ∷ 6 ∷ 11 ∷ 12 ∷ 16 ∷ 17 ∷ 18 ∷ 19 ∷ [])
-    ∷ may 9 (0 ∷ 3 ∷ 11 ∷ 12 ∷ 13 ∷ [])
-    ∷ may 10 (0 ∷ 4 ∷ 8 ∷ 9 ∷ 11 ∷ [])
+-- one call of each kind
+unfoldable pub kinds : List Call
+kinds =
+    Deposit 0 0 0
+    ∷ Withdraw 0 0 0
+    ∷ Order 0 0 0 0 0 0
+    ∷ Cancel 0 0
+    ∷ Open 0 0 0 0 0
+    ∷ Enter 0
+    ∷ Match 0 0
+    ∷ Bid 0 0 0 0 0 0
+    ∷ Settle 0 0
+    ∷ Claim 0
     ∷ []
 
 -- the line is a call of this kind with this code
@@ -689,15 +686,19 @@ shows kind code (supply-is t n) = false
 shows kind code (residue-is t n) = false
 shows kind code (closed-is m b) = false
 
-unfoldable pub shown : List Line → (kind code : ℕ) → Bool
+unfoldable pub shownIn : List Line → (kind code : ℕ) → Bool
+shownIn [] kind code = false
+shownIn (l ∷ ls) kind code = shows kind code l || shownIn ls kind code
+
+unfoldable pub shown : List (List Line) → (kind code : ℕ) → Bool
 shown [] kind code = false
-shown (l ∷ ls) kind code = shows kind code l || shown ls kind code
+shown (ls ∷ lss) kind code = shownIn ls kind code || shown lss kind code
 
-unfoldable pub allShown : List Line → ℕ → List ℕ → Bool
-allShown ls kind [] = true
-allShown ls kind (n ∷ ns) = shown ls kind n && allShown ls kind ns
+unfoldable pub allShown : List (List Line) → ℕ → List ℕ → Bool
+allShown lss kind [] = true
+allShown lss kind (n ∷ ns) = shown lss kind n && allShown lss kind ns
 
--- every allowed pair of kind and code occurs
-unfoldable pub covers : List Line → List Allowed → Bool
-covers ls [] = true
-covers ls (a ∷ as′) = allShown ls (a .kind) (a .codes) && covers ls as′
+-- every kind is shown with 0 and with each code that it tests
+unfoldable pub covers : List (List Line) → List Call → Bool
+covers lss [] = true
+covers lss (c ∷ cs) = allShown lss (kindOf c) (0 ∷ codesOf c) && covers lss cs
