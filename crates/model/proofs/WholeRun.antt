@@ -36,16 +36,16 @@ use Rattle.units.specs.Decide.{Test, decide}
 use Rattle.units.specs.Sums.{sumOver}
 use Rattle.units.specs.declared.Amount.{Amount}
 use Rattle.ledger.proofs.Laws.{fresh-balance, fresh-shaped, fresh-total}
-use Rattle.model.proofs.Bid.{bid-keeps}
-use Rattle.model.proofs.Claim.{claim-keeps, pays, shares-are}
+use Rattle.model.proofs.KeepsBid.{bid-keeps}
+use Rattle.model.proofs.KeepsClaim.{claim-keeps, pays, shares-are}
 use Rattle.model.proofs.Codes.{codes-rising}
-use Rattle.model.proofs.Enter.{enter-keeps}
-use Rattle.model.proofs.Funding.{deposit-keeps, withdraw-keeps}
+use Rattle.model.proofs.KeepsEnter.{enter-keeps}
+use Rattle.model.proofs.KeepsFunding.{deposit-keeps, withdraw-keeps}
 use Rattle.model.proofs.Inv.{Inv, MarketOk, RoundOk, atWork, partIn, saysIn}
-use Rattle.model.proofs.Match.{match-keeps}
-use Rattle.model.proofs.Open.{open-keeps}
-use Rattle.model.proofs.Orders.{cancel-keeps, order-keeps}
-use Rattle.model.proofs.Settle.{settle-keeps}
+use Rattle.model.proofs.KeepsMatch.{match-keeps}
+use Rattle.model.proofs.KeepsOpen.{open-keeps}
+use Rattle.model.proofs.KeepsOrders.{cancel-keeps, order-keeps}
+use Rattle.model.proofs.KeepsSettle.{settle-keeps}
 use Rattle.units.proofs.Decide.{Passed, decide-passed, decided}
 use Rattle.units.proofs.Sums.{sum-zero}
 use Rattle.model.specs.declared.call.Call.the-variants as Call

@@ -218,11 +218,10 @@ enterOf x k = decide (enterTests x k) (refuse x) (enterDone x k)
 -- "At least 4 blocks after open"
 abbrev pub matchTests : Exchange → ℕ → ℕ → List (Test Refusal)
 matchTests x market at =
-    let p = phase x market in
     when (outside market 1 3) NoSuchMarket
-    ∷ when (not (isCollect p)) WrongPhase
+    ∷ when (not (isCollect (phase x market))) WrongPhase
     ∷ when (below at (lastBlock x)) StaleBlock
-    ∷ when (below at (roundIn p .opened .0 + 4)) TooEarly
+    ∷ when (below at (roundIn (phase x market) .opened .0 + 4)) TooEarly
     ∷ []
 
 -- "Buys pay c and get m; sells the reverse. Auction starts at this block"

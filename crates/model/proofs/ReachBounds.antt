@@ -18,8 +18,8 @@ use Rattle.pricing.specs.declared.Side.the-variants.{Buy, Sell}
 use Rattle.ticket_set.specs.TicketSet.{bit}
 use Rattle.units.specs.Sums.{only}
 use Rattle.ledger.proofs.Laws.{balance-le-total}
-use Rattle.model.proofs.Claim.{moved-le, offer-le, part-is, rOk, s-le}
-use Rattle.model.proofs.Clock.{reachable-clock}
+use Rattle.model.proofs.KeepsClaim.{moved-le, offer-le, part-is, rOk, s-le}
+use Rattle.model.proofs.ReachClock.{reachable-clock}
 use Rattle.model.proofs.Inv.{Inv, MarketOk, Quiet, RoundOk, atWork, partIn, running-is, saysIn}
 use Rattle.model.proofs.Reach.{reachable-inv}
 use Rattle.model.proofs.Rounds.{went-zero}
