@@ -1,7 +1,7 @@
 -- "Balances stand as sixteen rows of four": what a ledger holds, and a ledger with one balance changed.
 use Prim.Native.Nat.{ℕ, _+_, _-_, _<_}
 use mathlib.Core.Path.{_≡_}
-use mathlib.Core.List.{List, []}
+use mathlib.Core.List.{[]}
 use lib.ListN.{length, getD, set, replicate}
 use Rattle.units.specs.Counts.{amount}
 use Rattle.units.specs.Sums.{sumTo}

@@ -1,6 +1,6 @@
 -- The day of document 01, computed.
 use mathlib.Core.Path.{_≡_, refl}
-use mathlib.Core.List.{List, [], _∷_, map}
+use mathlib.Core.List.{[], _∷_, map}
 use native.Mathlib.Omega.{arith}
 use Rattle.units.specs.Rounding.{down, up}
 use Rattle.units.specs.Sums.{sumTo, sumOver, only}
@@ -15,7 +15,7 @@ use Rattle.model.specs.Calls.{depositOf, withdrawOf, orderOf, cancelOf, 
 use Rattle.model.specs.Run.{stepOf, requestOf, eventsOf, stateAfter}
 use Rattle.model.specs.History.{Current, idle, running, logOf, T, P, G, cameIn, wentOut, holds, waitingCount, put, withAccepted, withEvent, historyFrom}
 use Rattle.model.specs.WholeRun.{restingTotal, roundsTotal, SettledTicket}
-use Rattle.model.specs.Scripts.{requestsFrom, requests, historyAfter, logAfter, shareFrom, Accounts, workedAccounts, summed, depositsIn, MemberAccount, workedMember}
+use Rattle.model.specs.Scripts.{requestsFrom, requests, historyAfter, logAfter, shareFrom, workedAccounts, summed, depositsIn, workedMember}
 use Rattle.model.specs.Day.{orders, collected, auctioned, paid, untilSettle, day, answersTo, printed, linesFrom, printedLines, roomAtOpen, shortAtOpen, refusedIn, dayAccounts, dayMembers}
 
 -- the printed answers; with 20 bytes for line 6 the day is the same, with 19 the line is 21 and nothing is opened; 21 goes before code 1 too

@@ -1,6 +1,6 @@
 -- The edges of document 01, computed.
 use mathlib.Core.Path.{_≡_, refl}
-use mathlib.Core.List.{List, map}
+use mathlib.Core.List.{map}
 use Rattle.units.specs.Rounding.{down, up}
 use Rattle.units.specs.Sums.{sumTo, sumOver, only}
 use Rattle.units.specs.Decimal.{digits}
@@ -12,9 +12,9 @@ use Rattle.model.specs.Answers.{answerLine}
 use Rattle.model.specs.Run.{stepOf, requestOf, eventsOf, stateAfter}
 use Rattle.model.specs.History.{T, P, G, cameIn, wentOut, holds, ticketCount, waitingCount, put, withAccepted, withEvent, historyFrom}
 use Rattle.model.specs.WholeRun.{restingTotal, roundsTotal}
-use Rattle.model.specs.Scripts.{requestsFrom, Accounts, workedAccounts, summed, depositsIn}
+use Rattle.model.specs.Scripts.{requestsFrom, workedAccounts, summed, depositsIn}
 use Rattle.model.specs.Day.{orders, collected}
-use Rattle.model.specs.Edges.{Edge, lastOutcome, workedEdge, matchOfTwo, threeBuys, edges, edgeAccounts}
+use Rattle.model.specs.Edges.{lastOutcome, workedEdge, matchOfTwo, threeBuys, edges, edgeAccounts}
 
 -- for every edge, the definitions give the paper's numbers
 pub edges-hold : map workedEdge edges ≡ edges

@@ -16,9 +16,9 @@ use Rattle.model.specs.Answers.{answerLine}
 use Rattle.model.specs.Run.{stepOf, requestOf, eventsOf, stateAfter}
 use Rattle.model.specs.History.{T, P, G, cameIn, wentOut, holds, ticketCount, waitingCount, put, withAccepted, withEvent, historyFrom}
 use Rattle.model.specs.WholeRun.{restingTotal, roundsTotal, SettledTicket}
-use Rattle.model.specs.Scripts.{worked, callsOf, requestsFrom, historyAfter, logAfter, shareFrom, Accounts, workedAccounts, summed, depositsIn}
+use Rattle.model.specs.Scripts.{worked, callsOf, requestsFrom, historyAfter, logAfter, shareFrom, workedAccounts, summed, depositsIn}
 use Rattle.model.proofs.Day.{has-round}
-use Rattle.model.specs.Examples.{balancesMoved, ordersRested, collected, baseSold, quoteSold, firstRound, secondRound, secondPaid, twoRounds, bothSidesSold, nothingSold, threeSells, matchesBounded, quoteOfNothing, secondSettled, twoRoundsAccounts, examples, kinds, shownIn, shown, allShown, covers}
+use Rattle.model.specs.Examples.{balancesMoved, ordersRested, collected, baseSold, quoteSold, firstRound, secondRound, secondPaid, bothSidesSold, nothingSold, threeSells, matchesBounded, quoteOfNothing, secondSettled, twoRoundsAccounts, examples, kinds, shownIn, shown, allShown, covers}
 
 -- the definitions give every answer and every reading of every script
 pub examples-hold : map (worked freshExchange) examples ≡ examples

@@ -9,18 +9,18 @@ use lib.ListN.{length}
 use borrow.Author.Tests.{ltb-false}
 use Rattle.model.specs.Bounds.{TicketBounds}
 use Rattle.model.specs.Calls.{outside}
-use Rattle.model.specs.History.{Current, Part, PlacedOrder, RoundLog, put, running, whenSame}
+use Rattle.model.specs.History.{Current, History, Part, PlacedOrder, RoundLog, put, running, whenSame, withRound}
 use Rattle.model.specs.Sides.{offered, other, wanted}
-use Rattle.model.specs.State.{phase, ticket, withPhase, withTicket}
-use Rattle.model.specs.WholeRun.{placedIn}
+use Rattle.model.specs.State.{phase, ticket, withBlock, withPhase, withTicket}
+use Rattle.model.specs.WholeRun.{currentHolds, placedIn}
 use Rattle.model.specs.declared.state.Exchange.{Exchange}
 use Rattle.model.specs.declared.state.Phase.{Phase}
 use Rattle.model.specs.declared.state.TicketState.{TicketState}
 use Rattle.pricing.specs.declared.Side.{Side}
 use Rattle.pricing.specs.declared.Side.the-variants.{Buy, Sell}
 use Rattle.units.specs.Sums.{only}
-use Rattle.model.proofs.Inv.{MarketOk, atWork, partIn, saysIn}
-use Rattle.model.proofs.Reading.{phase-other, phase-same, put-each, put-other, put-same, ticket-other, ticket-same}
+use Rattle.model.proofs.Inv.{Inv, MarketOk, atWork, partIn, saysIn}
+use Rattle.model.proofs.Reading.{inRounds-set, phase-other, phase-same, put-each, put-other, put-same, sized-block, sized-phase, ticket-other, ticket-same}
 use Rattle.units.proofs.Decide.{or-false}
 use Rattle.units.proofs.Sums.{only-zero}
 
@@ -119,3 +119,23 @@ places-round g mk f c same all j hj a pa la =
     (λ e p l. same j hj ∙ all j hj mk p l)
     (λ d p l. all j hj a p l)
     pa la
+
+-- a market's phase changes at a block, and its round in history with it, so that the same tickets are at work in it and it holds the same
+pub phase-keeps : (h : Exchange) (y : History) → Inv h y → (mk at : ℕ) → 0 < mk → mk < 4 → (p : Phase) (c : Current) → MarketOk p c
+    → ((j : ℕ) → j < 64 → atWork (partIn c j) ≡ atWork (partIn (y .rounds mk) j)) → ((u : ℕ) → currentHolds mk c u ≡ currentHolds mk (y .rounds mk) u)
+    → Inv (withBlock (withPhase h mk p) at) (withRound y mk c)
+phase-keeps h y i mk at pos lt4 p c ok work same =
+    record {
+      sized = sized-block (withPhase h mk p) at (sized-phase h mk p (i .sized));
+      tickets = i .tickets;
+      orders = i .orders;
+      places = places-round h mk (y .rounds) c work (i .places);
+      markets = markets-set h mk p (y .rounds) c pos (omega (arith, i .sized .markets)) ok (i .markets);
+      conserved = λ u hu. omega (arith, inRounds-set y mk c pos lt4 u, same u, i .conserved u hu);
+      supplied = i .supplied;
+      bounded = i .bounded;
+      accounts = i .accounts;
+      residue-is = i .residue-is;
+      ended-well = i .ended-well;
+      limits = i .limits;
+    }

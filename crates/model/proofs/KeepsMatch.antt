@@ -15,9 +15,8 @@ use Rattle.pricing.specs.declared.Side.{Side}
 use Rattle.pricing.specs.declared.Side.the-variants.{Buy, Sell}
 use Rattle.units.specs.Counts.{largest}
 use Rattle.units.specs.Sums.{only}
-use Rattle.model.proofs.Frames.{inside, markets-set, places-round}
+use Rattle.model.proofs.Frames.{inside, phase-keeps}
 use Rattle.model.proofs.Inv.{Inv, MarketOk, Quiet, RoundOk, atWork, changed-at, collect-is, partIn, running-is}
-use Rattle.model.proofs.Reading.{inRounds-set, sized-block, sized-phase}
 use Rattle.model.proofs.Rounds.{part-early}
 use Rattle.pricing.proofs.Limits.{Rate, rate-trade-buy, rate-trade-sell}
 use Rattle.pricing.proofs.Trades.{TradeFits, quote-some, trade-fits}
@@ -134,21 +133,9 @@ module _ (h : Exchange) (y : History) (i : Inv h y) (mk at : ℕ) (pos : 0 < mk)
 
   matches : Inv (withBlock (withPhase h mk (Auction r1)) at) (withRound y mk (running b1))
   matches =
-      record {
-        sized = sized-block (withPhase h mk (Auction r1)) at (sized-phase h mk (Auction r1) (i .sized));
-        tickets = i .tickets;
-        orders = i .orders;
-        places = places-round h mk (y .rounds) (running b1) (λ j hj. sym (ap (λ (v : Current). atWork (partIn v j)) er)) (i .places);
-        markets = markets-set h mk (Auction r1) (y .rounds) (running b1) pos (omega (arith, i .sized .markets)) round1 (i .markets);
-        conserved =
-            λ u hu. omega (arith, inRounds-set y mk (running b1) pos lt4 u, holdsOf1 u, ap (λ (v : Current). currentHolds mk v u) er, i .conserved u hu);
-        supplied = i .supplied;
-        bounded = i .bounded;
-        accounts = i .accounts;
-        residue-is = i .residue-is;
-        ended-well = i .ended-well;
-        limits = i .limits;
-      }
+      phase-keeps h y i mk at pos lt4 (Auction r1) (running b1) round1
+      (λ j hj. sym (ap (λ (v : Current). atWork (partIn v j)) er))
+      (λ u. holdsOf1 u ∙ sym (ap (λ (v : Current). currentHolds mk v u) er))
 
 pub match-keeps : (h : Exchange) (y : History) (mk at : ℕ) → Inv h y → Passed (matchTests h mk at)
     → Inv (matchDone h mk at .exchange) (withEvent y (Call.Match mk at) (matchDone h mk at .answer))

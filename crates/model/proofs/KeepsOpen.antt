@@ -1,7 +1,7 @@
 -- Open keeps the invariant.
 use Prim.Native.Nat.{_+_, _-_, _<_, _≤_, ℕ}
 use mathlib.Core.Bool.{_||_, false}
-use mathlib.Core.Path.{_≡_, ap, refl, subst, sym}
+use mathlib.Core.Path.{_∙_, _≡_, ap, refl, subst, sym}
 use native.Mathlib.Nat.{zero-sub}
 use native.Mathlib.Omega.{arith}
 use lib.Dec.{lit<, ltb}
@@ -9,7 +9,7 @@ use borrow.Author.Tests.{ltb-false, not-false}
 use Rattle.model.specs.Bounds.{heldIn}
 use Rattle.model.specs.Calls.{openDone, openTests, openedRound, outside}
 use Rattle.model.specs.History.{Current, G, History, P, T, absent, cameIn, collecting, emptyLog, given, holds, idle, movedOut, openedOn, running, taken, traded, wentOut, withAccepted, withEvent, withRound}
-use Rattle.model.specs.State.{isClosed, phase, totalsOf, withPhase}
+use Rattle.model.specs.State.{isClosed, phase, totalsOf}
 use Rattle.model.specs.WholeRun.{currentHolds, holdsOf}
 use Rattle.model.specs.declared.state.Exchange.{Exchange}
 use Rattle.model.specs.declared.state.Phase.{Phase}
@@ -18,9 +18,8 @@ use Rattle.pricing.specs.Prices.{highBound, lowBound}
 use Rattle.pricing.specs.declared.Side.{Side}
 use Rattle.pricing.specs.declared.Side.the-variants.{Buy, Sell}
 use Rattle.units.specs.Sums.{only}
-use Rattle.model.proofs.Frames.{inside, markets-set, places-round}
+use Rattle.model.proofs.Frames.{inside, phase-keeps}
 use Rattle.model.proofs.Inv.{Inv, MarketOk, Quiet, RoundOk, atWork, closed-is, idle-is, partIn}
-use Rattle.model.proofs.Reading.{inRounds-set, sized-block, sized-phase}
 use Rattle.pricing.proofs.Limits.{rate-none}
 use Rattle.pricing.proofs.Prices.{high-le, le-high, low-le, low-pos}
 use Rattle.ticket_set.proofs.Laws.{bit-of-empty}
@@ -140,20 +139,7 @@ open-keeps h y mk at r w len i p =
     let lt4 : mk < 4 = omega arith in
     let er : y .rounds mk ≡ idle = idle-is (y .rounds mk) (subst (λ (v : Phase). MarketOk v (y .rounds mk)) ep (i .markets mk pos lt4)) in
     subst (λ (v : Current). Inv (openDone h mk at r w len .exchange) (withRound y mk v)) (sym (ap openedOn er))
-    (record {
-      sized = sized-block (withPhase h mk (Collect (openedRound at r w len))) at (sized-phase h mk (Collect (openedRound at r w len)) (i .sized));
-      tickets = i .tickets;
-      orders = i .orders;
-      places = places-round h mk (y .rounds) (running emptyLog) (λ j hj. sym (ap (λ (c : Current). atWork (partIn c j)) er)) (i .places);
-      markets =
-          markets-set h mk (Collect (openedRound at r w len)) (y .rounds) (running emptyLog) pos (omega (arith, i .sized .markets))
-          (opened-ok at r w len (hr .0) (hr .1) hw (omega arith) (hl .1), quiet-empty) (i .markets);
-      conserved =
-          λ u hu. omega (arith, inRounds-set y mk (running emptyLog) pos lt4 u, holdsOf-empty mk u, ap (λ (c : Current). currentHolds mk c u) er, i .conserved u hu);
-      supplied = i .supplied;
-      bounded = i .bounded;
-      accounts = i .accounts;
-      residue-is = i .residue-is;
-      ended-well = i .ended-well;
-      limits = i .limits;
-    })
+    (phase-keeps h y i mk at pos lt4 (Collect (openedRound at r w len)) (running emptyLog)
+    (opened-ok at r w len (hr .0) (hr .1) hw (omega arith) (hl .1), quiet-empty)
+    (λ j hj. sym (ap (λ (c : Current). atWork (partIn c j)) er))
+    (λ u. holdsOf-empty mk u ∙ sym (ap (λ (c : Current). currentHolds mk c u) er)))

@@ -16,7 +16,7 @@ use Rattle.model.specs.declared.state.Round.{Round}
 use Rattle.pricing.specs.declared.Side.{Side}
 use Rattle.pricing.specs.declared.Side.the-variants.{Buy, Sell}
 use Rattle.units.specs.Sums.{only, sumOver}
-use Rattle.model.proofs.Frames.{inside, markets-set, places-round}
+use Rattle.model.proofs.Frames.{inside, markets-set, phase-keeps, places-round}
 use Rattle.model.proofs.Inv.{Inv, MarketOk, RoundOk, atWork, auction-is, ended-at, partIn, running-is}
 use Rattle.model.proofs.Reading.{inRounds-set, sized-block, sized-phase}
 use Rattle.model.proofs.Rounds.{absent-is, covers, marks-count, none-waiting, over-work, part-early}
@@ -83,21 +83,9 @@ module _ (h : Exchange) (y : History) (i : Inv h y) (mk at : ℕ) (pos : 0 < mk)
 
   goes-on : Inv (withBlock (withPhase h mk (Paying r)) at) (withRound y mk (running b1))
   goes-on =
-      record {
-        sized = sized-block (withPhase h mk (Paying r)) at (sized-phase h mk (Paying r) (i .sized));
-        tickets = i .tickets;
-        orders = i .orders;
-        places = places-round h mk (y .rounds) (running b1) (λ j hj. sym (ap (λ (v : Current). atWork (partIn v j)) er)) (i .places);
-        markets = markets-set h mk (Paying r) (y .rounds) (running b1) pos (omega (arith, i .sized .markets)) round1 (i .markets);
-        conserved =
-            λ u hu. omega (arith, inRounds-set y mk (running b1) pos lt4 u, holdsOf1 u, ap (λ (v : Current). currentHolds mk v u) er, i .conserved u hu);
-        supplied = i .supplied;
-        bounded = i .bounded;
-        accounts = i .accounts;
-        residue-is = i .residue-is;
-        ended-well = i .ended-well;
-        limits = i .limits;
-      }
+      phase-keeps h y i mk at pos lt4 (Paying r) (running b1) round1
+      (λ j hj. sym (ap (λ (v : Current). atWork (partIn v j)) er))
+      (λ u. holdsOf1 u ∙ sym (ap (λ (v : Current). currentHolds mk v u) er))
 
   -- no ticket waits: the round had none, and holds nothing
   module _ (last : waitingCount b1 ≡ 0) where

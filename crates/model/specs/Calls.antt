@@ -14,7 +14,6 @@ use Rattle.pricing.specs.declared.Totals.{Totals}
 use Rattle.pricing.specs.declared.Trade.{Trade}
 use Rattle.pricing.specs.Prices.{highBound, lowBound, offLimit, tradeWithin, auctionPrice, quoteFor, sharePaid, shareGot}
 use Rattle.model.specs.declared.state.Order.{Order}
-use Rattle.model.specs.declared.state.TicketState.{TicketState}
 use Rattle.model.specs.declared.state.TicketState.the-variants.{Free, Resting, Entered}
 use Rattle.model.specs.declared.state.Round.{Round}
 use Rattle.model.specs.declared.state.Phase.{Phase}
@@ -27,7 +26,7 @@ use Rattle.model.specs.declared.answer.Outcome.{Outcome}
 use Rattle.model.specs.Sides.{sideOf, bySide, offered, wanted, gives, takes}
 use Rattle.model.specs.State.{balance, supply, lastBlock, ticket, orderIn, isFree, isEntered, restingOr}
 use Rattle.model.specs.State.{phase, noTotals, roundIn, isClosed, isCollect, isAuction, isPaying, totalsOf}
-use Rattle.model.specs.State.{withSupply, withTicket, withPhase, withBlock, credit, debit, toResidue}
+use Rattle.model.specs.State.{withStart, withTickets, withSides, withHeld, withSupply, withTicket, withPhase, withBlock, credit, debit, toResidue}
 
 -- ---- outcomes and tests
 
@@ -187,19 +186,12 @@ plusTotal t n = record { total = amount (t .total .0 + n); paid = t .paid; got =
 -- "The whole offer joins its side's total", and what the round holds; the round marks the ticket
 abbrev pub enteredRound : Round → ℕ → Side → ℕ → Round
 enteredRound r k side n =
-    record {
-      reference = r .reference;
-      hi = r .hi;
-      lo = r .lo;
-      length = r .length;
-      opened = r .opened;
-      start = r .start;
-      tickets = inserted (r .tickets) k;
-      buys = bySide side (plusTotal (r .buys) n) (r .buys);
-      sells = bySide side (r .sells) (plusTotal (r .sells) n);
-      quote = amount (r .quote .0 + bySide side n 0);
-      base = amount (r .base .0 + bySide side 0 n);
-    }
+    withTickets
+    (withHeld
+    (withSides r (bySide side (plusTotal (r .buys) n) (r .buys)) (bySide side (r .sells) (plusTotal (r .sells) n)))
+    (r .quote .0 + bySide side n 0)
+    (r .base .0 + bySide side 0 n))
+    (inserted (r .tickets) k)
 
 -- ticket k with order o enters round r: "Answers that side's total, 0"
 abbrev pub enterWith : Exchange → ℕ → Order → Round → Outcome
@@ -227,19 +219,11 @@ matchTests x market at =
 -- "Buys pay c and get m; sells the reverse. Auction starts at this block"
 abbrev pub matchedRound : Round → ℕ → Trade → Round
 matchedRound r at t =
-    record {
-      reference = r .reference;
-      hi = r .hi;
-      lo = r .lo;
-      length = r .length;
-      opened = r .opened;
-      start = block at;
-      tickets = r .tickets;
-      buys = record { total = r .buys .total; paid = t .quote; got = t .base };
-      sells = record { total = r .sells .total; paid = t .base; got = t .quote };
-      quote = r .quote;
-      base = r .base;
-    }
+    withStart
+    (withSides r
+    (record { total = r .buys .total; paid = t .quote; got = t .base })
+    (record { total = r .sells .total; paid = t .base; got = t .quote }))
+    at
 
 -- what round r's two sides trade
 abbrev pub tradeOf : Round → Trade
@@ -297,19 +281,10 @@ plusTrade t paid got = record { total = t .total; paid = amount (t .paid .0 + pa
 
 abbrev pub bidRound : Round → Side → ℕ → ℕ → Round
 bidRound r side n q =
-    record {
-      reference = r .reference;
-      hi = r .hi;
-      lo = r .lo;
-      length = r .length;
-      opened = r .opened;
-      start = r .start;
-      tickets = r .tickets;
-      buys = bySide side (plusTrade (r .buys) q n) (r .buys);
-      sells = bySide side (r .sells) (plusTrade (r .sells) n q);
-      quote = amount (bySide side (r .quote .0 - q) (r .quote .0 + q));
-      base = amount (bySide side (r .base .0 + n) (r .base .0 - n));
-    }
+    withHeld
+    (withSides r (bySide side (plusTrade (r .buys) q n) (r .buys)) (bySide side (r .sells) (plusTrade (r .sells) n q)))
+    (bySide side (r .quote .0 - q) (r .quote .0 + q))
+    (bySide side (r .base .0 + n) (r .base .0 - n))
 
 -- the maker gives and takes, and side s of round r trades n for q: "Answers n, quote"
 abbrev pub bidWith : Exchange → ℕ → ℕ → ℕ → Side → ℕ → ℕ → Round → Outcome
@@ -378,19 +353,9 @@ claimTests x k =
 -- "Its bit is cleared", and its refund and what it got leave the round
 abbrev pub claimedRound : Round → ℕ → Side → ℕ → ℕ → Round
 claimedRound r k side refund got =
-    record {
-      reference = r .reference;
-      hi = r .hi;
-      lo = r .lo;
-      length = r .length;
-      opened = r .opened;
-      start = r .start;
-      tickets = removed (r .tickets) k;
-      buys = r .buys;
-      sells = r .sells;
-      quote = amount (r .quote .0 - bySide side refund got);
-      base = amount (r .base .0 - bySide side got refund);
-    }
+    withTickets
+    (withHeld r (r .quote .0 - bySide side refund got) (r .base .0 - bySide side got refund))
+    (removed (r .tickets) k)
 
 -- "The last claim of a round moves what the round still holds into the tray and closes the market"
 abbrev pub payingOrClosed : Exchange → ℕ → Round → Exchange

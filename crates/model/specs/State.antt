@@ -1,11 +1,8 @@
 -- What is read off the exchange, and the exchange with one thing changed.
-use Prim.Native.Nat.{ℕ, zero, suc, _+_, _-_}
+use Prim.Native.Nat.{ℕ, zero, suc, _+_}
 use mathlib.Core.Bool.{Bool, true, false}
 use mathlib.Core.List.{List}
 use lib.ListN.{getD, set, replicate}
-use Rattle.units.specs.declared.Amount.{Amount}
-use Rattle.units.specs.declared.Price.{Price}
-use Rattle.units.specs.declared.Block.{Block}
 use Rattle.units.specs.Counts.{amount, price, block}
 use Rattle.pricing.specs.declared.Side.{Side}
 use Rattle.pricing.specs.declared.Side.the-variants.{Buy, Sell}
@@ -141,6 +138,25 @@ isPaying (Paying r) = true
 abbrev pub totalsOf : Round → Side → Totals
 totalsOf r Buy = r .buys
 totalsOf r Sell = r .sells
+
+-- ---- a round with one thing changed
+
+abbrev pub withStart : Round → ℕ → Round
+withStart r b =
+    record { reference = r .reference; hi = r .hi; lo = r .lo; length = r .length; opened = r .opened; start = block b; tickets = r .tickets; buys = r .buys; sells = r .sells; quote = r .quote; base = r .base }
+
+abbrev pub withTickets : Round → ℕ → Round
+withTickets r s =
+    record { reference = r .reference; hi = r .hi; lo = r .lo; length = r .length; opened = r .opened; start = r .start; tickets = s; buys = r .buys; sells = r .sells; quote = r .quote; base = r .base }
+
+abbrev pub withSides : Round → Totals → Totals → Round
+withSides r buys sells =
+    record { reference = r .reference; hi = r .hi; lo = r .lo; length = r .length; opened = r .opened; start = r .start; tickets = r .tickets; buys = buys; sells = sells; quote = r .quote; base = r .base }
+
+-- what the round holds
+abbrev pub withHeld : Round → ℕ → ℕ → Round
+withHeld r quote base =
+    record { reference = r .reference; hi = r .hi; lo = r .lo; length = r .length; opened = r .opened; start = r .start; tickets = r .tickets; buys = r .buys; sells = r .sells; quote = amount quote; base = amount base }
 
 -- ---- the exchange with one thing changed
 

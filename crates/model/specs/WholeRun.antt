@@ -24,7 +24,7 @@ use Rattle.model.specs.Sides.{offered, wanted}
 use Rattle.model.specs.State.{balance, supply, residue, ticket, freeTicket, restingOr, freshExchange}
 use Rattle.model.specs.Answers.{answerLine}
 use Rattle.model.specs.Run.{Request, Engine, requestOf, eventsOf, stateAfter}
-use Rattle.model.specs.History.{PlacedOrder, no-order, placed, Part, waiting, Stage, settled, RoundLog, Current, idle, running, T, P, G, cameIn, wentOut, holds, ticketCount, Payout, EndedRound, History, historyOf}
+use Rattle.model.specs.History.{PlacedOrder, no-order, placed, waiting, settled, RoundLog, Current, idle, running, T, P, G, cameIn, wentOut, holds, ticketCount, Payout, EndedRound, History, historyOf}
 
 -- ---- read off the state
 

@@ -1,7 +1,7 @@
 // Prices and shares of a round: bounds, the trade within, auction prices, quotes, and a ticket's share.
 ghost use mathlib.Core.Path.{_≡_};
 ghost use Prim.Native.Nat.{_≤_, min};
-ghost use Rattle.units.specs.Counts.{amount, price};
+ghost use Rattle.units.specs.Counts.{price};
 ghost use Rattle.pricing.specs.Prices.{
   highBound,
   lowBound,

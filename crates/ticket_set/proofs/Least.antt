@@ -7,7 +7,6 @@ use native.Mathlib.Nat.{div-one, pow-suc, div-div-eq-div-mul, eq-or-lt-of-le, ad
 use native.Mathlib.Omega.{arith}
 use lib.Dec.{ltb, leb·zero, leb·suc-suc}
 use lib.Count.{trailingZeros, under}
-use Rattle.ticket_set.specs.declared.Next.{Next}
 use Rattle.ticket_set.specs.declared.Next.the-variants.{At, Nothing}
 use Rattle.ticket_set.specs.TicketSet.{bit, removed, countOf, nextFrom, nextOf}
 use Rattle.ticket_set.proofs.Bits.{bit-cases}

@@ -1,6 +1,6 @@
 -- "The round marks each of the 64 tickets with one bit; the count of set bits is the number of its tickets": a set of tickets is a number
 -- whose bit k, counted from the lowest, is 1 where ticket k is a member.
-use mathlib.Core.Bool.{Bool, true, false, cond}
+use mathlib.Core.Bool.{Bool, cond}
 use Prim.Native.Nat.{ℕ, zero, suc, _+_, _-_, _*_, _/_, _%_, _^_}
 use lib.Dec.{eqb}
 use Rattle.units.specs.Sums.{sumTo}

@@ -1,7 +1,7 @@
 -- `down` and `up` round as their meanings say, and no other number does; what each gives in products.
-use mathlib.Core.Path.{_≡_, refl, sym, ap, _∙_}
-use Prim.Native.Nat.{ℕ, zero, suc, _+_, _-_, _*_, _/_, _%_, _^_, _≤_, _<_}
-use native.Mathlib.Nat.{div-add-mod, mod-lt, lt-of-mul-lt-mul-left, le-of-mul-le-mul-left, mul-le-mul-left, mul-le-mul, le-antisymm}
+use mathlib.Core.Path.{_≡_, sym}
+use Prim.Native.Nat.{ℕ, _+_, _-_, _*_, _^_, _≤_, _<_}
+use native.Mathlib.Nat.{div-add-mod, mod-lt, lt-of-mul-lt-mul-left, mul-le-mul-left, mul-le-mul, le-antisymm}
 use native.Mathlib.Omega.{arith}
 use Rattle.units.specs.Rounding.{down, up, RoundedDown, RoundedUp, RoundsDown, RoundsUp}
 
@@ -59,9 +59,6 @@ rounds-up a b h = (up-is a b h, λ c r. up-only a b c h r)
 
 pub down-mono : (a a′ b : ℕ) → 0 < b → a ≤ a′ → down a b ≤ down a′ b
 down-mono a a′ b h l = le-down a′ b (down a b) h (omega (arith, down-low a b))
-
-pub up-mono : (a a′ b : ℕ) → 0 < b → a ≤ a′ → up a b ≤ up a′ b
-up-mono a a′ b h l = up-le a b (up a′ b) h (omega (arith, up-low a′ b h))
 
 -- a part k / l of d, with k ≤ l, is no more than d, rounded either way; and the whole of d is d
 pub part-down-le : (d k l : ℕ) → 0 < l → k ≤ l → down (d * k) l ≤ d

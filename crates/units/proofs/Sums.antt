@@ -3,16 +3,11 @@ use Prim.Native.Nat.{ℕ, zero, suc, _+_, _-_, _*_, _≤_, _<_}
 use mathlib.Core.Path.{_≡_, refl, sym, ap, ap₂, _∙_}
 use mathlib.Core.Logic.{_⊎_, inl, inr}
 use mathlib.Core.Bool.{Bool, true, false, cond}
-use mathlib.Core.List.{List, [], _∷_}
 use native.Mathlib.Omega.{arith}
-use native.Mathlib.Nat.{le-refl, le-suc-iff, mul-add, mul-zero, lt-irrefl, add-le-add}
+use native.Mathlib.Nat.{le-refl, le-suc-iff, mul-add, mul-zero, add-le-add}
 use lib.Dec.{eqb}
 use borrow.Author.Tests.{eq-eqb, ne-eqb}
-use Rattle.units.specs.Sums.{sumTo, sumOver, only}
-
-pub sum-suc : (n : ℕ) (f : ℕ → ℕ) → sumTo (suc n) f ≡ sumTo n f + f n
-unfolding sumTo
-sum-suc n f = refl
+use Rattle.units.specs.Sums.{sumTo, only}
 
 pub sum-ext : (n : ℕ) (f g : ℕ → ℕ) → ((k : ℕ) → k < n → f k ≡ g k) → sumTo n f ≡ sumTo n g
 unfolding sumTo

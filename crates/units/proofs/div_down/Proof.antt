@@ -1,6 +1,6 @@
 -- `units::div_down` meets its contract.
 use borrow.Author.Needs.{needs}
-use mathlib.Core.Path.{refl, sym, ap, ap₂, _∙_}
+use mathlib.Core.Path.{refl}
 use Rattle.units.specs.Rounding.{down}
 use Rattle.units.proofs.div_down.Statement.{statement}
 use Rattle.units.proofs.div_down.Tie as tie

@@ -1,6 +1,6 @@
 -- `units::part_down` meets its contract.
 use borrow.Author.Needs.{needs}
-use mathlib.Core.Path.{refl, sym, ap, ap₂, _∙_}
+use mathlib.Core.Path.{ap, _∙_}
 use Prim.Native.Nat.{ℕ}
 use Rattle.units.specs.Rounding.{down}
 use Rattle.units.proofs.part_down.Statement.{statement}

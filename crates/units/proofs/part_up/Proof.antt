@@ -1,6 +1,6 @@
 -- `units::part_up` meets its contract.
 use borrow.Author.Needs.{needs}
-use mathlib.Core.Path.{refl, sym, ap, ap₂, _∙_}
+use mathlib.Core.Path.{ap, _∙_}
 use Prim.Native.Nat.{ℕ}
 use Rattle.units.specs.Rounding.{up}
 use Rattle.units.proofs.part_up.Statement.{statement}

@@ -1,7 +1,6 @@
 use borrow.Author.Needs.{needs}
 use Rattle.model.proofs.answer.code.Statement.{statement}
 use Rattle.model.proofs.answer.code.Tie as tie
-use Rattle.model.proofs.answer.refusal_code.Reads as refusal-code-reads
 
 enum-told : tie.Need-enum-told
 enum-told c = search needs

@@ -1,7 +1,6 @@
 use borrow.Author.Needs.{needs}
 use Rattle.model.proofs.state.fresh.Statement.{statement}
 use Rattle.model.proofs.state.fresh.Tie as tie
-use Rattle.ledger.proofs.fresh.Reads as fresh-reads
 
 fresh-requires : tie.Need-fresh-requires
 fresh-requires c κs = search needs
