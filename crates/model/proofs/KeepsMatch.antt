@@ -1,11 +1,11 @@
 -- Match keeps the invariant.
-use Prim.Native.Nat.{_+_, _-_, _<_, _≤_, ℕ}
-use mathlib.Core.Path.{_∙_, _≡_, ap, ap₂, refl, subst, subst₂, sym}
+use Prim.Native.Nat.{_+_, _<_, _≤_, ℕ}
+use mathlib.Core.Path.{_∙_, _≡_, ap, refl, subst, subst₂, sym}
 use native.Mathlib.Omega.{arith}
 use borrow.Author.Tests.{not-false}
 use Rattle.model.specs.Bounds.{heldIn}
 use Rattle.model.specs.Calls.{matchDone, matchTests, matchedRound, tradeOf}
-use Rattle.model.specs.History.{Current, G, History, P, RoundLog, T, auctioning, cameIn, collecting, holds, logOf, running, wentOut, withAccepted, withEvent, withMatch, withRound}
+use Rattle.model.specs.History.{Current, G, History, P, RoundLog, T, auctioning, cameIn, collecting, logOf, running, wentOut, withAccepted, withEvent, withMatch, withRound}
 use Rattle.model.specs.State.{isClosed, isCollect, phase, roundIn, totalsOf, withBlock, withPhase}
 use Rattle.model.specs.WholeRun.{currentHolds, holdsOf}
 use Rattle.model.specs.declared.state.Exchange.{Exchange}
@@ -14,10 +14,9 @@ use Rattle.model.specs.declared.state.Round.{Round}
 use Rattle.pricing.specs.declared.Side.{Side}
 use Rattle.pricing.specs.declared.Side.the-variants.{Buy, Sell}
 use Rattle.units.specs.Counts.{largest}
-use Rattle.units.specs.Sums.{only}
 use Rattle.model.proofs.Frames.{inside, phase-keeps}
 use Rattle.model.proofs.Inv.{Inv, MarketOk, Quiet, RoundOk, atWork, changed-at, collect-is, partIn, running-is}
-use Rattle.model.proofs.Rounds.{part-early}
+use Rattle.model.proofs.Rounds.{T-restaged, came-restaged, holdsOf-restaged, part-early, went-restaged}
 use Rattle.pricing.proofs.Limits.{Rate, rate-trade-buy, rate-trade-sell}
 use Rattle.pricing.proofs.Trades.{TradeFits, quote-some, trade-fits}
 use Rattle.units.proofs.Decide.{Passed}
@@ -53,8 +52,7 @@ module _ (h : Exchange) (y : History) (i : Inv h y) (mk at : ℕ) (pos : 0 < mk)
   nothing-traded = quote-some (T b Buy) (T b Sell) (r .lo .0) (r .hi .0) (tradeOf r) fits
 
   T1 : (x : Side) → T b1 x ≡ T b x
-  unfolding T
-  T1 x = refl
+  T1 = T-restaged b auctioning m c
 
   P1 : (P b1 Buy ≡ c) × (P b1 Sell ≡ m)
   unfolding P
@@ -65,14 +63,10 @@ module _ (h : Exchange) (y : History) (i : Inv h y) (mk at : ℕ) (pos : 0 < mk)
   G1 = (omega (arith, both-ok .1 .given-zero Sell), omega (arith, both-ok .1 .given-zero Buy))
 
   came1 : (x : Side) → cameIn b1 x ≡ cameIn b x
-  unfolding cameIn T
-  came1 Buy = refl
-  came1 Sell = refl
+  came1 = came-restaged b auctioning m c
 
   went1 : (x : Side) → wentOut b1 x ≡ wentOut b x
-  unfolding wentOut
-  went1 Buy = refl
-  went1 Sell = refl
+  went1 = went-restaged b auctioning m c
 
   round1 : RoundOk auctioning r1 b1
   round1 =
@@ -126,10 +120,7 @@ module _ (h : Exchange) (y : History) (i : Inv h y) (mk at : ℕ) (pos : 0 < mk)
       rate1 Sell = rw (P1 .1, G1 .1) (rate-trade-sell (T b Buy) (T b Sell) (r .lo .0) (r .hi .0) (tradeOf r) fits)
 
   holdsOf1 : (u : ℕ) → holdsOf mk b1 u ≡ holdsOf mk b u
-  unfolding holds
-  holdsOf1 u =
-      ap₂ (λ p q. only 0 p u + only mk q u)
-      (ap₂ (λ p q. p - q) (came1 Buy) (went1 Buy)) (ap₂ (λ p q. p - q) (came1 Sell) (went1 Sell))
+  holdsOf1 = holdsOf-restaged b auctioning m c mk
 
   matches : Inv (withBlock (withPhase h mk (Auction r1)) at) (withRound y mk (running b1))
   matches =

@@ -1,8 +1,8 @@
 -- Settle keeps the invariant, also where it closes the market.
-use Prim.Native.Nat.{_+_, _-_, _<_, _≤_, ℕ}
+use Prim.Native.Nat.{_<_, _≤_, ℕ}
 use mathlib.Core.Bool.{Bool, false, true}
 use mathlib.Core.List.{_∷_}
-use mathlib.Core.Path.{_∙_, _≡_, ap, ap₂, refl, subst, subst₂, sym}
+use mathlib.Core.Path.{_∙_, _≡_, ap, refl, subst, subst₂, sym}
 use native.Mathlib.Omega.{arith}
 use lib.Dec.{eqb}
 use borrow.Author.Tests.{eqb-true, not-false}
@@ -19,7 +19,7 @@ use Rattle.units.specs.Sums.{only, sumOver}
 use Rattle.model.proofs.Frames.{inside, markets-set, phase-keeps, places-round}
 use Rattle.model.proofs.Inv.{Inv, MarketOk, RoundOk, atWork, auction-is, ended-at, partIn, running-is}
 use Rattle.model.proofs.Reading.{inRounds-set, sized-block, sized-phase}
-use Rattle.model.proofs.Rounds.{absent-is, covers, marks-count, none-waiting, over-work, part-early}
+use Rattle.model.proofs.Rounds.{T-restaged, absent-is, came-restaged, covers, holdsOf-restaged, marks-count, none-waiting, over-work, part-early, went-restaged}
 use Rattle.units.proofs.Decide.{Passed}
 use Rattle.units.proofs.Sums.{only-zero, sum-zero}
 use Rattle.model.specs.declared.call.Call.the-variants as Call
@@ -33,8 +33,7 @@ module _ (h : Exchange) (y : History) (i : Inv h y) (mk at : ℕ) (pos : 0 < mk)
   rOk = subst₂ MarketOk ep er (i .markets mk pos lt4)
 
   T1 : (x : Side) → T b1 x ≡ T b x
-  unfolding T
-  T1 x = refl
+  T1 = T-restaged b settled (b .m) (b .c)
 
   P1 : (x : Side) → P b1 x ≡ P b x
   unfolding P
@@ -47,14 +46,10 @@ module _ (h : Exchange) (y : History) (i : Inv h y) (mk at : ℕ) (pos : 0 < mk)
   G1 Sell = refl
 
   came1 : (x : Side) → cameIn b1 x ≡ cameIn b x
-  unfolding cameIn T
-  came1 Buy = refl
-  came1 Sell = refl
+  came1 = came-restaged b settled (b .m) (b .c)
 
   went1 : (x : Side) → wentOut b1 x ≡ wentOut b x
-  unfolding wentOut
-  went1 Buy = refl
-  went1 Sell = refl
+  went1 = went-restaged b settled (b .m) (b .c)
 
   round1 : RoundOk settled r b1
   round1 =
@@ -76,10 +71,7 @@ module _ (h : Exchange) (y : History) (i : Inv h y) (mk at : ℕ) (pos : 0 < mk)
       }
 
   holdsOf1 : (u : ℕ) → holdsOf mk b1 u ≡ holdsOf mk b u
-  unfolding holds
-  holdsOf1 u =
-      ap₂ (λ p q. only 0 p u + only mk q u)
-      (ap₂ (λ p q. p - q) (came1 Buy) (went1 Buy)) (ap₂ (λ p q. p - q) (came1 Sell) (went1 Sell))
+  holdsOf1 = holdsOf-restaged b settled (b .m) (b .c) mk
 
   goes-on : Inv (withBlock (withPhase h mk (Paying r)) at) (withRound y mk (running b1))
   goes-on =

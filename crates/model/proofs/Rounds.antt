@@ -1,7 +1,7 @@
 -- A round in history: what one changed part changes, that the round covers what it owes, and what it leaves.
 use Prim.Native.Nat.{_+_, _-_, _<_, _≤_, suc, zero, ℕ}
 use mathlib.Core.Logic.{_⊎_, inl, inr}
-use mathlib.Core.Path.{_∙_, _≡_, ap, refl, sym}
+use mathlib.Core.Path.{_∙_, _≡_, ap, ap₂, refl, sym}
 use native.Mathlib.Nat.{eq-zero-or-pos}
 use native.Mathlib.Omega.{arith}
 use Rattle.model.specs.History.{Current, G, P, Part, RoundLog, Stage, T, absent, cameIn, claimed, holds, isWaiting, movedOut, offerOn, put, running, settled, taken, ticketCount, waiting, waitingCount, wentOut, withPart}
@@ -11,7 +11,7 @@ use Rattle.pricing.specs.Prices.{shareGot, sharePaid}
 use Rattle.pricing.specs.declared.Side.{Side}
 use Rattle.pricing.specs.declared.Side.the-variants.{Buy, Sell}
 use Rattle.ticket_set.specs.TicketSet.{bit, countOf}
-use Rattle.units.specs.Sums.{sumTo}
+use Rattle.units.specs.Sums.{only, sumTo}
 use Rattle.model.proofs.Inv.{ClaimedOk, ClaimsAt, PartOk, atWork}
 use Rattle.model.proofs.Reading.{put-each, put-other, put-same}
 use Rattle.model.proofs.SideLaw.{SideLaw, countOn, gotSum, on, on-both, paidSum, side-law}
@@ -53,6 +53,33 @@ module _ (b : RoundLog) (k : ℕ) (q : Part) (hk : k < 64) where
   unfolding cameIn
   cameIn-part Buy = omega (arith, T-part Buy)
   cameIn-part Sell = omega (arith, T-part Sell)
+
+-- ---- a log at another stage or with another match: the same came in and went out
+
+abbrev pub restaged : RoundLog → Stage → ℕ → ℕ → RoundLog
+restaged b g m c =
+    record { stage = g; part = b .part; m = m; c = c; base0 = b .base0; quote0 = b .quote0; base1 = b .base1; quote1 = b .quote1 }
+
+module _ (b : RoundLog) (g : Stage) (m c : ℕ) where
+  pub T-restaged : (x : Side) → T (restaged b g m c) x ≡ T b x
+  unfolding T
+  T-restaged x = refl
+
+  pub came-restaged : (x : Side) → cameIn (restaged b g m c) x ≡ cameIn b x
+  unfolding cameIn T
+  came-restaged Buy = refl
+  came-restaged Sell = refl
+
+  pub went-restaged : (x : Side) → wentOut (restaged b g m c) x ≡ wentOut b x
+  unfolding wentOut
+  went-restaged Buy = refl
+  went-restaged Sell = refl
+
+  pub holdsOf-restaged : (mk u : ℕ) → holdsOf mk (restaged b g m c) u ≡ holdsOf mk b u
+  unfolding holds
+  holdsOf-restaged mk u =
+      ap₂ (λ p q. only 0 p u + only mk q u)
+      (ap₂ (λ p q. p - q) (came-restaged Buy) (went-restaged Buy)) (ap₂ (λ p q. p - q) (came-restaged Sell) (went-restaged Sell))
 
 -- ---- what a settled round owes
 
