@@ -44,6 +44,7 @@ unposted l f = record { entry = Failed f; ledger = l }
 abbrev pub placeTests : ℕ → ℕ → List (Test Fault)
 placeTests m t = when (ltb 15 m) NoSuchMember ∷ when (ltb 3 t) NoSuchToken ∷ []
 
+-- a member's balance of a token
 unfoldable pub balanceOf : Ledger → ℕ → ℕ → Entry
 balanceOf l m t = decide (placeTests m t) Failed (Done (amount (balanceIn l m t)))
 
@@ -54,6 +55,7 @@ creditTests l m t n =
     ∷ when (ltb largest (balanceIn l m t + n)) TooLarge
     ∷ []
 
+-- n more for a member, and the new balance
 unfoldable pub creditOf : Ledger → ℕ → ℕ → ℕ → Posting
 creditOf l m t n = decide (creditTests l m t n) (unposted l) (posted (credited l m t n) (balanceIn l m t + n))
 
@@ -64,6 +66,7 @@ debitTests l m t n =
     ∷ when (ltb (balanceIn l m t) n) TooSmall
     ∷ []
 
+-- n less, and the new balance
 unfoldable pub debitOf : Ledger → ℕ → ℕ → ℕ → Posting
 debitOf l m t n = decide (debitTests l m t n) (unposted l) (posted (debited l m t n) (balanceIn l m t - n))
 

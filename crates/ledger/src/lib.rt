@@ -24,7 +24,8 @@ pub struct Ledger {
     pub rows: [Row; 16],
 }
 
-// Why a ledger call is refused.
+// Why a ledger call is refused: a balance would pass 4,294,967,295 (TooLarge) or is below the amount (TooSmall), or there is
+// no such place.
 pub enum Fault {
     NoSuchMember,
     NoSuchToken,
@@ -113,6 +114,7 @@ pub fn cell_of(row: Row, token: u32) -> Amount
     row.cells[t]
 }
 
+// Adds to a token of a row.
 pub fn credit_row(row: Row, token: u32, n: Amount) -> RowPosting
     ensures { λ r. ⌜ r ≡ creditRowOf row token (n .0) ⌝ }
 {
@@ -140,6 +142,7 @@ pub fn credit_row(row: Row, token: u32, n: Amount) -> RowPosting
     }
 }
 
+// Takes from a token of a row.
 pub fn debit_row(row: Row, token: u32, n: Amount) -> RowPosting
     ensures { λ r. ⌜ r ≡ debitRowOf row token (n .0) ⌝ }
 {

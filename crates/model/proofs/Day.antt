@@ -16,21 +16,21 @@ use Rattle.model.specs.Run.{stepOf, requestOf, eventsOf, stateAfter}
 use Rattle.model.specs.History.{Current, idle, running, logOf, T, P, G, cameIn, wentOut, holds, waitingCount, put, withAccepted, withEvent, historyFrom}
 use Rattle.model.specs.WholeRun.{restingTotal, roundsTotal, SettledTicket}
 use Rattle.model.specs.Scripts.{requestsFrom, requests, historyAfter, logAfter, shareFrom, workedAccounts, summed, depositsIn, workedMember}
-use Rattle.model.specs.Day.{orders, collected, auctioned, paid, untilSettle, day, answersTo, printed, linesFrom, printedLines, roomAtOpen, shortAtOpen, refusedIn, dayAccounts, dayMembers}
+use Rattle.model.specs.Day.{dayOrders, dayCollect, dayAuction, dayClaims, untilSettle, day, answersTo, printed, linesFrom, printedLines, roomAtOpen, shortAtOpen, refusedIn, dayAccounts, dayMembers}
 
 -- the printed answers; with 20 bytes for line 6 the day is the same, with 19 the line is 21 and nothing is opened; 21 goes before code 1 too
 pub day-printed : map answersTo (requests day ∷ roomAtOpen 20 ∷ roomAtOpen 19 ∷ refusedIn 8 ∷ refusedIn 7 ∷ []) ≡ printed ∷ printed ∷ shortAtOpen ∷ ((1, 0, 0) ∷ []) ∷ ((21, 0, 0) ∷ []) ∷ []
-unfolding orders collected auctioned paid printed shortAtOpen requestsFrom eventsOf stateAfter requestOf answerLine digits stepOf depositOf withdrawOf orderOf cancelOf openOf enterOf matchOf bidOf settleOf claimOf highBound lowBound matchBase matchQuote tradeWithin auctionPrice quoteFor sharePaid shareGot down up sumTo bit inserted removed countOf cellOf withCell creditedRow debitedRow rowOf withRow balanceIn credited debited freshLedger
+unfolding dayOrders dayCollect dayAuction dayClaims printed shortAtOpen requestsFrom eventsOf stateAfter requestOf answerLine digits stepOf depositOf withdrawOf orderOf cancelOf openOf enterOf matchOf bidOf settleOf claimOf highBound lowBound matchBase matchQuote tradeWithin auctionPrice quoteFor sharePaid shareGot down up sumTo bit inserted removed countOf cellOf withCell creditedRow debitedRow rowOf withRow balanceIn credited debited freshLedger
 day-printed = refl
 
 -- and the printed bytes
 pub day-lines : linesFrom 1 (eventsOf requestOf freshExchange (requests day)) ≡ printedLines
-unfolding orders collected auctioned paid linesFrom printedLines requestsFrom eventsOf stateAfter requestOf answerLine digits stepOf depositOf withdrawOf orderOf cancelOf openOf enterOf matchOf bidOf settleOf claimOf highBound lowBound matchBase matchQuote tradeWithin auctionPrice quoteFor sharePaid shareGot down up sumTo bit inserted removed countOf cellOf withCell creditedRow debitedRow rowOf withRow balanceIn credited debited freshLedger
+unfolding dayOrders dayCollect dayAuction dayClaims linesFrom printedLines requestsFrom eventsOf stateAfter requestOf answerLine digits stepOf depositOf withdrawOf orderOf cancelOf openOf enterOf matchOf bidOf settleOf claimOf highBound lowBound matchBase matchQuote tradeWithin auctionPrice quoteFor sharePaid shareGot down up sumTo bit inserted removed countOf cellOf withCell creditedRow debitedRow rowOf withRow balanceIn credited debited freshLedger
 day-lines = refl
 
 -- the theorem's numbers, and that they add up
 pub day-accounts : map workedAccounts dayAccounts ≡ dayAccounts
-unfolding orders collected auctioned paid dayAccounts workedAccounts requestsFrom eventsOf stateAfter requestOf answerLine digits stepOf depositOf withdrawOf orderOf cancelOf openOf enterOf matchOf bidOf settleOf claimOf highBound lowBound matchBase matchQuote tradeWithin auctionPrice quoteFor sharePaid shareGot down up sumTo bit inserted removed countOf cellOf withCell creditedRow debitedRow rowOf withRow balanceIn credited debited freshLedger sumOver only T P G cameIn wentOut holds waitingCount put withAccepted withEvent historyFrom totalIn restingTotal roundsTotal
+unfolding dayOrders dayCollect dayAuction dayClaims dayAccounts workedAccounts requestsFrom eventsOf stateAfter requestOf answerLine digits stepOf depositOf withdrawOf orderOf cancelOf openOf enterOf matchOf bidOf settleOf claimOf highBound lowBound matchBase matchQuote tradeWithin auctionPrice quoteFor sharePaid shareGot down up sumTo bit inserted removed countOf cellOf withCell creditedRow debitedRow rowOf withRow balanceIn credited debited freshLedger sumOver only T P G cameIn wentOut holds waitingCount put withAccepted withEvent historyFrom totalIn restingTotal roundsTotal
 day-accounts = refl
 
 pub day-adds-up : map summed dayAccounts ≡ map depositsIn dayAccounts
@@ -38,7 +38,7 @@ unfolding dayAccounts summed depositsIn
 day-adds-up = refl
 
 pub day-members : map workedMember dayMembers ≡ dayMembers
-unfolding orders collected auctioned paid dayMembers workedMember requestsFrom eventsOf stateAfter requestOf answerLine digits stepOf depositOf withdrawOf orderOf cancelOf openOf enterOf matchOf bidOf settleOf claimOf highBound lowBound matchBase matchQuote tradeWithin auctionPrice quoteFor sharePaid shareGot down up sumTo bit inserted removed countOf cellOf withCell creditedRow debitedRow rowOf withRow balanceIn credited debited freshLedger sumOver only T P G cameIn wentOut holds waitingCount put withAccepted withEvent historyFrom totalIn restingTotal roundsTotal
+unfolding dayOrders dayCollect dayAuction dayClaims dayMembers workedMember requestsFrom eventsOf stateAfter requestOf answerLine digits stepOf depositOf withdrawOf orderOf cancelOf openOf enterOf matchOf bidOf settleOf claimOf highBound lowBound matchBase matchQuote tradeWithin auctionPrice quoteFor sharePaid shareGot down up sumTo bit inserted removed countOf cellOf withCell creditedRow debitedRow rowOf withRow balanceIn credited debited freshLedger sumOver only T P G cameIn wentOut holds waitingCount put withAccepted withEvent historyFrom totalIn restingTotal roundsTotal
 day-members = refl
 
 -- a market that has a round
@@ -52,14 +52,14 @@ has-round (running b) = λ e. refl
 
 -- after line 11 tickets 0 and 1 are settled, so that the theorem's clause on settled tickets speaks of them
 pub buy-settled : SettledTicket (historyAfter untilSettle) 0 0 1 Buy 3000000 600 (logAfter untilSettle 1)
-unfolding orders collected auctioned paid requestsFrom eventsOf stateAfter requestOf answerLine digits stepOf depositOf withdrawOf orderOf cancelOf openOf enterOf matchOf bidOf settleOf claimOf highBound lowBound matchBase matchQuote tradeWithin auctionPrice quoteFor sharePaid shareGot down up sumTo bit inserted removed countOf cellOf withCell creditedRow debitedRow rowOf withRow balanceIn credited debited freshLedger sumOver only T P G cameIn wentOut holds waitingCount put withAccepted withEvent historyFrom totalIn restingTotal roundsTotal
+unfolding dayOrders dayCollect dayAuction dayClaims requestsFrom eventsOf stateAfter requestOf answerLine digits stepOf depositOf withdrawOf orderOf cancelOf openOf enterOf matchOf bidOf settleOf claimOf highBound lowBound matchBase matchQuote tradeWithin auctionPrice quoteFor sharePaid shareGot down up sumTo bit inserted removed countOf cellOf withCell creditedRow debitedRow rowOf withRow balanceIn credited debited freshLedger sumOver only T P G cameIn wentOut holds waitingCount put withAccepted withEvent historyFrom totalIn restingTotal roundsTotal
 buy-settled = record { ticket-range = omega arith; market-low = omega arith; market-high = omega arith; round = has-round (historyAfter untilSettle .rounds 1) tt; stage = refl; part = refl }
 
 pub sell-settled : SettledTicket (historyAfter untilSettle) 1 1 1 Sell 2000000 300 (logAfter untilSettle 1)
-unfolding orders collected auctioned paid requestsFrom eventsOf stateAfter requestOf answerLine digits stepOf depositOf withdrawOf orderOf cancelOf openOf enterOf matchOf bidOf settleOf claimOf highBound lowBound matchBase matchQuote tradeWithin auctionPrice quoteFor sharePaid shareGot down up sumTo bit inserted removed countOf cellOf withCell creditedRow debitedRow rowOf withRow balanceIn credited debited freshLedger sumOver only T P G cameIn wentOut holds waitingCount put withAccepted withEvent historyFrom totalIn restingTotal roundsTotal
+unfolding dayOrders dayCollect dayAuction dayClaims requestsFrom eventsOf stateAfter requestOf answerLine digits stepOf depositOf withdrawOf orderOf cancelOf openOf enterOf matchOf bidOf settleOf claimOf highBound lowBound matchBase matchQuote tradeWithin auctionPrice quoteFor sharePaid shareGot down up sumTo bit inserted removed countOf cellOf withCell creditedRow debitedRow rowOf withRow balanceIn credited debited freshLedger sumOver only T P G cameIn wentOut holds waitingCount put withAccepted withEvent historyFrom totalIn restingTotal roundsTotal
 sell-settled = record { ticket-range = omega arith; market-low = omega arith; market-high = omega arith; round = has-round (historyAfter untilSettle .rounds 1) tt; stage = refl; part = refl }
 
 -- and their shares, worked from history, are what lines 12 and 13 print
 pub day-shares : (shareFrom (logAfter untilSettle 1) Buy 600 ∷ shareFrom (logAfter untilSettle 1) Sell 300 ∷ []) ≡ (600, 240) ∷ (300, 750) ∷ []
-unfolding orders collected auctioned paid requestsFrom eventsOf stateAfter requestOf answerLine digits stepOf depositOf withdrawOf orderOf cancelOf openOf enterOf matchOf bidOf settleOf claimOf highBound lowBound matchBase matchQuote tradeWithin auctionPrice quoteFor sharePaid shareGot down up sumTo bit inserted removed countOf cellOf withCell creditedRow debitedRow rowOf withRow balanceIn credited debited freshLedger sumOver only T P G cameIn wentOut holds waitingCount put withAccepted withEvent historyFrom totalIn restingTotal roundsTotal
+unfolding dayOrders dayCollect dayAuction dayClaims requestsFrom eventsOf stateAfter requestOf answerLine digits stepOf depositOf withdrawOf orderOf cancelOf openOf enterOf matchOf bidOf settleOf claimOf highBound lowBound matchBase matchQuote tradeWithin auctionPrice quoteFor sharePaid shareGot down up sumTo bit inserted removed countOf cellOf withCell creditedRow debitedRow rowOf withRow balanceIn credited debited freshLedger sumOver only T P G cameIn wentOut holds waitingCount put withAccepted withEvent historyFrom totalIn restingTotal roundsTotal
 day-shares = refl

@@ -13,12 +13,12 @@ use Rattle.model.specs.Run.{stepOf, requestOf, eventsOf, stateAfter}
 use Rattle.model.specs.History.{T, P, G, cameIn, wentOut, holds, ticketCount, waitingCount, put, withAccepted, withEvent, historyFrom}
 use Rattle.model.specs.WholeRun.{restingTotal, roundsTotal}
 use Rattle.model.specs.Scripts.{requestsFrom, workedAccounts, summed, depositsIn}
-use Rattle.model.specs.Day.{orders, collected}
+use Rattle.model.specs.Day.{dayOrders, dayCollect}
 use Rattle.model.specs.Edges.{lastOutcome, workedEdge, matchOfTwo, threeBuys, edges, edgeAccounts}
 
 -- for every edge, the definitions give the paper's numbers
 pub edges-hold : map workedEdge edges ≡ edges
-unfolding edges matchOfTwo threeBuys orders collected workedEdge lastOutcome stepOf depositOf orderOf openOf enterOf matchOf bidOf settleOf claimOf highBound lowBound matchBase matchQuote tradeWithin auctionPrice quoteFor sharePaid shareGot down up sumTo bit inserted removed countOf cellOf withCell creditedRow debitedRow rowOf withRow balanceIn credited debited freshLedger
+unfolding edges matchOfTwo threeBuys dayOrders dayCollect workedEdge lastOutcome stepOf depositOf orderOf openOf enterOf matchOf bidOf settleOf claimOf highBound lowBound matchBase matchQuote tradeWithin auctionPrice quoteFor sharePaid shareGot down up sumTo bit inserted removed countOf cellOf withCell creditedRow debitedRow rowOf withRow balanceIn credited debited freshLedger
 edges-hold = refl
 
 -- the theorem's numbers where rounding left something, and that they add up

@@ -12,14 +12,14 @@ use Rattle.model.specs.Calls.{outside}
 use Rattle.model.specs.History.{Current, History, Part, PlacedOrder, RoundLog, put, running, whenSame, withRound}
 use Rattle.model.specs.Sides.{offered, other, wanted}
 use Rattle.model.specs.State.{phase, ticket, withBlock, withPhase, withTicket}
-use Rattle.model.specs.WholeRun.{currentHolds, placedIn}
+use Rattle.model.specs.WholeRun.{atWork, currentHolds, enteredIn, partIn, placedIn}
 use Rattle.model.specs.declared.state.Exchange.{Exchange}
 use Rattle.model.specs.declared.state.Phase.{Phase}
 use Rattle.model.specs.declared.state.TicketState.{TicketState}
 use Rattle.pricing.specs.declared.Side.{Side}
 use Rattle.pricing.specs.declared.Side.the-variants.{Buy, Sell}
 use Rattle.units.specs.Sums.{only}
-use Rattle.model.proofs.Inv.{Inv, MarketOk, atWork, partIn, saysIn}
+use Rattle.model.proofs.Inv.{Inv, MarketOk}
 use Rattle.model.proofs.Reading.{inRounds-set, phase-other, phase-same, put-each, put-other, put-same, sized-block, sized-phase, ticket-other, ticket-same}
 use Rattle.units.proofs.Decide.{or-false}
 use Rattle.units.proofs.Sums.{only-zero}
@@ -72,33 +72,33 @@ module _ (g : Exchange) (k : ℕ) (s : TicketState) (hk : k < length (g .tickets
       (λ d. all j hj ∙ ap placedIn (sym (ticket-other g k s j d)))
 
   -- a ticket that stays out of rounds leaves every place as it was
-  pub places-set : (f : ℕ → Current) → ((a : ℕ) → saysIn s a ≡ saysIn (ticket g k) a)
-      → ((j : ℕ) → j < 64 → (a : ℕ) → 0 < a → a < 4 → atWork (partIn (f a) j) ≡ saysIn (ticket g j) a)
-      → (j : ℕ) → j < 64 → (a : ℕ) → 0 < a → a < 4 → atWork (partIn (f a) j) ≡ saysIn (ticket (withTicket g k s) j) a
+  pub places-set : (f : ℕ → Current) → ((a : ℕ) → enteredIn s a ≡ enteredIn (ticket g k) a)
+      → ((j : ℕ) → j < 64 → (a : ℕ) → 0 < a → a < 4 → atWork (partIn (f a) j) ≡ enteredIn (ticket g j) a)
+      → (j : ℕ) → j < 64 → (a : ℕ) → 0 < a → a < 4 → atWork (partIn (f a) j) ≡ enteredIn (ticket (withTicket g k s) j) a
   places-set f e all j hj a pa la =
-      all j hj a pa la ∙ sym (each-ticket (λ i t. saysIn t a ≡ saysIn (ticket g i) a) (e a) j (λ d. refl))
+      all j hj a pa la ∙ sym (each-ticket (λ i t. enteredIn t a ≡ enteredIn (ticket g i) a) (e a) j (λ d. refl))
 
   -- a ticket that goes in or out of market mk's round, whose part q says so, changes the places of that ticket in that round
   pub places-part : (f : ℕ → Current) (mk : ℕ) (b : RoundLog) (q : Part) (c : Current) → f mk ≡ running b → 0 < mk → mk < 4
       → ((j : ℕ) → j < 64 → atWork (partIn c j) ≡ atWork (put (b .part) k q j))
-      → atWork q ≡ saysIn s mk → ((a : ℕ) → (a ≡ mk → ⊥) → saysIn (ticket g k) a ≡ saysIn s a)
-      → ((j : ℕ) → j < 64 → (a : ℕ) → 0 < a → a < 4 → atWork (partIn (f a) j) ≡ saysIn (ticket g j) a)
-      → (j : ℕ) → j < 64 → (a : ℕ) → 0 < a → a < 4 → atWork (partIn (put f mk c a) j) ≡ saysIn (ticket (withTicket g k s) j) a
+      → atWork q ≡ enteredIn s mk → ((a : ℕ) → (a ≡ mk → ⊥) → enteredIn (ticket g k) a ≡ enteredIn s a)
+      → ((j : ℕ) → j < 64 → (a : ℕ) → 0 < a → a < 4 → atWork (partIn (f a) j) ≡ enteredIn (ticket g j) a)
+      → (j : ℕ) → j < 64 → (a : ℕ) → 0 < a → a < 4 → atWork (partIn (put f mk c a) j) ≡ enteredIn (ticket (withTicket g k s) j) a
   places-part f mk b q c er pm lm same here there all j hj a pa la =
-      put-each (λ i v. atWork (partIn v j) ≡ saysIn (ticket (withTicket g k s) j) i) f mk c a
+      put-each (λ i v. atWork (partIn v j) ≡ enteredIn (ticket (withTicket g k s) j) i) f mk c a
       (λ e. same j hj ∙ at-mk (ℕ-discrete j k))
-      (λ d. all j hj a pa la ∙ sym (each-ticket (λ i t. saysIn t a ≡ saysIn (ticket g i) a) (sym (there a d)) j (λ dj. refl)))
+      (λ d. all j hj a pa la ∙ sym (each-ticket (λ i t. enteredIn t a ≡ enteredIn (ticket g i) a) (sym (there a d)) j (λ dj. refl)))
     where
-      at-mk : Dec (j ≡ k) → atWork (put (b .part) k q j) ≡ saysIn (ticket (withTicket g k s) j) mk
+      at-mk : Dec (j ≡ k) → atWork (put (b .part) k q j) ≡ enteredIn (ticket (withTicket g k s) j) mk
       at-mk (yes e) =
-          let z : atWork (put (b .part) k q k) ≡ saysIn (ticket (withTicket g k s) k) mk =
-          ap atWork (put-same (b .part) k q) ∙ here ∙ sym (ap (λ t. saysIn t mk) (ticket-same g k s hk)) in
-          subst (λ (i : ℕ). atWork (put (b .part) k q i) ≡ saysIn (ticket (withTicket g k s) i) mk) (sym e) z
+          let z : atWork (put (b .part) k q k) ≡ enteredIn (ticket (withTicket g k s) k) mk =
+          ap atWork (put-same (b .part) k q) ∙ here ∙ sym (ap (λ t. enteredIn t mk) (ticket-same g k s hk)) in
+          subst (λ (i : ℕ). atWork (put (b .part) k q i) ≡ enteredIn (ticket (withTicket g k s) i) mk) (sym e) z
       at-mk (no d) =
           ap atWork (put-other (b .part) k q j d)
           ∙ ap (λ (v : Current). atWork (partIn v j)) (sym er)
           ∙ all j hj mk pm lm
-          ∙ ap (λ t. saysIn t mk) (sym (ticket-other g k s j d))
+          ∙ ap (λ t. enteredIn t mk) (sym (ticket-other g k s j d))
 
 -- ---- one market changed
 
@@ -112,10 +112,10 @@ module _ (g : Exchange) (mk : ℕ) (p : Phase) (f : ℕ → Current) (c : Curren
 
 -- a round whose parts at work stay as they were leaves every place as it was
 pub places-round : (g : Exchange) (mk : ℕ) (f : ℕ → Current) (c : Current) → ((j : ℕ) → j < 64 → atWork (partIn c j) ≡ atWork (partIn (f mk) j))
-    → ((j : ℕ) → j < 64 → (a : ℕ) → 0 < a → a < 4 → atWork (partIn (f a) j) ≡ saysIn (ticket g j) a)
-    → (j : ℕ) → j < 64 → (a : ℕ) → 0 < a → a < 4 → atWork (partIn (put f mk c a) j) ≡ saysIn (ticket g j) a
+    → ((j : ℕ) → j < 64 → (a : ℕ) → 0 < a → a < 4 → atWork (partIn (f a) j) ≡ enteredIn (ticket g j) a)
+    → (j : ℕ) → j < 64 → (a : ℕ) → 0 < a → a < 4 → atWork (partIn (put f mk c a) j) ≡ enteredIn (ticket g j) a
 places-round g mk f c same all j hj a pa la =
-    put-each (λ i v. (0 < i) → (i < 4) → atWork (partIn v j) ≡ saysIn (ticket g j) i) f mk c a
+    put-each (λ i v. (0 < i) → (i < 4) → atWork (partIn v j) ≡ enteredIn (ticket g j) i) f mk c a
     (λ e p l. same j hj ∙ all j hj mk p l)
     (λ d p l. all j hj a p l)
     pa la

@@ -1,44 +1,25 @@
 -- The invariant that relates a state with what history says.
 use Prim.Native.Nat.{_+_, _<_, _^_, _≤_, ℕ}
 use mathlib.Core.Bool.{cond, false, true}
-use mathlib.Core.Path.{_∙_, _≡_, ap, refl}
+use mathlib.Core.Path.{_∙_, _≡_, ap, refl, subst}
 use native.Mathlib.Omega.{arith}
-use lib.Dec.{eqb}
 use Rattle.model.specs.Bounds.{TermsBounds, TicketBounds, heldIn}
 use Rattle.model.specs.History.{Current, G, History, P, Part, RoundLog, Stage, T, absent, auctioning, cameIn, changedAt, claimed, collecting, endOrRound, endedAt, given, idle, isWaiting, logOf, running, sameStage, settled, taken, traded, waiting, wentOut}
 use Rattle.model.specs.State.{balance, isAuction, isClosed, isCollect, isEntered, isFree, isPaying, orderIn, phase, residue, roundIn, supply, ticket, totalsOf}
-use Rattle.model.specs.WholeRun.{All, EndedWell, LimitKept, balances, inRounds, placedIn, putBy, resting}
+use Rattle.model.specs.WholeRun.{All, EndedWell, LimitKept, atWork, balances, enteredIn, inRounds, partIn, placedIn, putBy, resting}
 use Rattle.model.specs.declared.state.Exchange.{Exchange}
 use Rattle.model.specs.declared.state.Phase.{Phase}
 use Rattle.model.specs.declared.state.Phase.the-variants.{Auction, Closed, Collect, Paying}
 use Rattle.model.specs.declared.state.Round.{Round}
 use Rattle.model.specs.declared.state.TicketState.{TicketState}
 use Rattle.model.specs.declared.state.TicketState.the-variants.{Entered, Free, Resting}
+use Rattle.pricing.specs.Laws.{Rate}
 use Rattle.pricing.specs.Prices.{offLimit, shareGot, sharePaid}
 use Rattle.pricing.specs.declared.Side.{Side}
 use Rattle.ticket_set.specs.TicketSet.{bit}
 use Rattle.units.specs.Counts.{largest}
 use Rattle.units.specs.Sums.{sumOver}
 use Rattle.model.proofs.Reading.{Sized}
-use Rattle.pricing.proofs.Limits.{Rate}
-
--- ---- tickets
-
--- the part that a ticket in this state waits with in market n's round
-abbrev pub saysIn : TicketState → ℕ → Part
-saysIn Free n = absent
-saysIn (Resting o) n = absent
-saysIn (Entered o) n = cond (eqb n (o .market)) (waiting (o .member) (o .side) (o .limit .0) (o .offer .0)) absent
-
--- a part that waits; one that was claimed is over
-abbrev pub atWork : Part → Part
-atWork absent = absent
-atWork (waiting member side limit o) = waiting member side limit o
-atWork (claimed member side limit o s got) = absent
-
-abbrev pub partIn : Current → ℕ → Part
-partIn idle k = absent
-partIn (running b) k = b .part k
 
 -- ---- rounds
 
@@ -101,7 +82,7 @@ pub record Inv (h : Exchange) (y : History) : Type 0 where
   pub sized : Sized h
   pub tickets : (k : ℕ) → k < 64 → TicketBounds (ticket h k)
   pub orders : (k : ℕ) → k < 64 → y .orders k ≡ placedIn (ticket h k)
-  pub places : (k : ℕ) → k < 64 → (n : ℕ) → 0 < n → n < 4 → atWork (partIn (y .rounds n) k) ≡ saysIn (ticket h k) n
+  pub places : (k : ℕ) → k < 64 → (n : ℕ) → 0 < n → n < 4 → atWork (partIn (y .rounds n) k) ≡ enteredIn (ticket h k) n
   pub markets : (n : ℕ) → 0 < n → n < 4 → MarketOk (phase h n) (y .rounds n)
   pub conserved : (t : ℕ) → t < 4 → balances h t + resting h t + inRounds y t + residue h t ≡ supply h t
   pub supplied : (t : ℕ) → t < 4 → supply h t + y .withdrawn t ≡ y .deposited t
@@ -178,3 +159,7 @@ changed-at g f c b e s =
 pub ended-at : (g : Stage) (f : RoundLog → RoundLog) (y : History) (n : ℕ) (c : Current) (b : RoundLog) → c ≡ running b → b .stage ≡ g → endedAt g f y n c ≡ endOrRound y n (f b)
 ended-at g f y n c b e s =
     ap (endedAt g f y n) e ∙ ap (λ v. cond (sameStage g v) (endOrRound y n (f b)) y) s ∙ stage-self g (endOrRound y n (f b)) y
+
+-- a claimed part was paid its full share
+pub claimed-ok : (g : Stage) (hi lo : ℕ) (b : RoundLog) (q : Part) → PartOk g hi lo b q → (m : ℕ) (x : Side) (l o s got : ℕ) → q ≡ claimed m x l o s got → ClaimedOk b x o s got
+claimed-ok g hi lo b q k m x l o s got e = subst (PartOk g hi lo b) e k .1

@@ -10,10 +10,11 @@ use Rattle.model.specs.Calls.{bidDone, bidQuote, bidRound, bidTests, not
 use Rattle.model.specs.History.{Current, G, History, P, RoundLog, T, addedTo, auctioning, cameIn, holds, isWaiting, logOf, put, running, wentOut, whenSame, withAccepted, withBid, withCredit, withDebit, withEvent, withRound}
 use Rattle.model.specs.Sides.{gives, offered, other, sideOf, takes, wanted}
 use Rattle.model.specs.State.{balance, credit, debit, isAuction, isClosed, phase, residue, roundIn, supply, totalsOf, withBlock, withPhase}
-use Rattle.model.specs.WholeRun.{balances, currentHolds, holdsOf, resting, roundsTotal}
+use Rattle.model.specs.WholeRun.{atWork, balances, currentHolds, holdsOf, partIn, resting, roundsTotal}
 use Rattle.model.specs.declared.state.Exchange.{Exchange}
 use Rattle.model.specs.declared.state.Phase.the-variants.{Auction}
 use Rattle.model.specs.declared.state.Round.{Round}
+use Rattle.pricing.specs.Laws.{Rate}
 use Rattle.pricing.specs.Prices.{auctionPrice, quoteFor}
 use Rattle.pricing.specs.declared.Side.{Side}
 use Rattle.pricing.specs.declared.Side.the-variants.{Buy, Sell}
@@ -21,10 +22,10 @@ use Rattle.units.specs.Counts.{largest}
 use Rattle.units.specs.Sums.{only}
 use Rattle.ledger.proofs.Laws.{credited-total, debited-total}
 use Rattle.model.proofs.Frames.{inside, markets-set, offered-lt, offered-split, places-round, wanted-lt, wanted-split}
-use Rattle.model.proofs.Inv.{Inv, MarketOk, PartOk, RoundOk, atWork, auction-is, changed-at, partIn, running-is}
+use Rattle.model.proofs.Inv.{Inv, MarketOk, PartOk, RoundOk, auction-is, changed-at, running-is}
 use Rattle.model.proofs.Reading.{Sized, account-credit, account-debit, inRounds-set, put-same, sized-block, sized-credit, sized-debit, sized-phase}
 use Rattle.model.proofs.Rounds.{held-within, part-early, went-zero}
-use Rattle.pricing.proofs.Limits.{Rate, rate-add, rate-bid-buy, rate-bid-sell, rate-none}
+use Rattle.pricing.proofs.Limits.{rate-add, rate-bid-buy, rate-bid-sell, rate-none}
 use Rattle.pricing.proofs.Prices.{price-within}
 use Rattle.units.proofs.Decide.{Passed, or-false}
 use Rattle.units.proofs.Sums.{only-add}

@@ -12,7 +12,7 @@ use Rattle.model.specs.Calls.{claimDone, claimTests, claimWith, claimedR
 use Rattle.model.specs.History.{Current, G, History, P, Part, PlacedOrder, RoundLog, T, absent, cameIn, claimed, claimedAs, endOrRound, holds, idle, isTicket, isWaiting, logOf, movedOut, offerOn, placedOr, put, running, settled, ticketCount, waiting, waitingCount, wentOut, whenSame, withAccepted, withClaim, withCredit, withEnd, withEvent, withOrder, withPart, withPayout, withRound}
 use Rattle.model.specs.Sides.{offered, wanted}
 use Rattle.model.specs.State.{balance, credit, isClosed, isEntered, isPaying, orderIn, phase, residue, restingOr, roundIn, ticket, toResidue, totalsOf, withPhase, withTicket}
-use Rattle.model.specs.WholeRun.{All, LimitKept, PaysOut, balances, cons, currentHolds, holdsOf, inRounds, placedIn, putBy, resting, restingIn, roundsTotal}
+use Rattle.model.specs.WholeRun.{All, LimitKept, PaysOut, atWork, balances, cons, currentHolds, enteredIn, holdsOf, inRounds, partIn, placedIn, putBy, resting, restingIn, roundsTotal}
 use Rattle.model.specs.declared.state.Exchange.{Exchange}
 use Rattle.model.specs.declared.state.Order.{Order}
 use Rattle.model.specs.declared.state.Phase.the-variants.{Closed, Paying}
@@ -26,9 +26,9 @@ use Rattle.ticket_set.specs.TicketSet.{bit, countOf, removed}
 use Rattle.units.specs.Sums.{only, sumOver}
 use Rattle.ledger.proofs.Laws.{credited-balance, credited-other, credited-total}
 use Rattle.model.proofs.Frames.{markets-set, orders-set, places-part, tickets-set, wanted-lt}
-use Rattle.model.proofs.Inv.{ClaimedOk, Inv, MarketOk, PartOk, RoundOk, WaitingOk, atWork, ended-at, entered-is, partIn, paying-is, running-is, saysIn}
+use Rattle.model.proofs.Inv.{ClaimedOk, Inv, MarketOk, PartOk, RoundOk, WaitingOk, ended-at, entered-is, paying-is, running-is}
 use Rattle.model.proofs.Reading.{Sized, account-credit, fewer-of, inRounds-set, put-each, put-same, residue-plus, resting-set, sized-credit, sized-phase, sized-residue, sized-ticket, ticket-other, ticket-same}
-use Rattle.model.proofs.Rounds.{G-part, P-part, T-part, cameIn-part, covers, leaves, marks-count, marks-part, none-waiting, over-work, wentOut-part}
+use Rattle.model.proofs.Rounds.{G-part, P-part, T-part, cameIn-part, covers, leaves, marks-count, marks-part, none-waiting, over-work, round-pays, wentOut-part}
 use Rattle.pricing.proofs.Limits.{limit-kept}
 use Rattle.pricing.proofs.Shares.{paid-le-offer}
 use Rattle.ticket_set.proofs.Bits.{bit-removed-other, bit-removed-same, removed-lt}
@@ -47,7 +47,7 @@ whenSame-self : (x : Side) (n : ℕ) → whenSame x x n ≡ n
 whenSame-self Buy n = refl
 whenSame-self Sell n = refl
 
-says-resting : (o : Order) (rest n : ℕ) → saysIn (restingOr o rest) n ≡ absent
+says-resting : (o : Order) (rest n : ℕ) → enteredIn (restingOr o rest) n ≡ absent
 says-resting o zero n = refl
 says-resting o (suc rest) n = refl
 
@@ -126,7 +126,7 @@ module _ (h : Exchange) (y : History) (i : Inv h y) (k : ℕ) (hk : k < 64) (o :
       waiting-is (b .part k) (o .member) side lim n
       (ap (λ (c : Current). atWork (partIn c k)) (sym er)
       ∙ i .places k hk mk (oOk .market-low) (oOk .market-high)
-      ∙ ap (λ (t : TicketState). saysIn t mk) et
+      ∙ ap (λ (t : TicketState). enteredIn t mk) et
       ∙ ap (λ (q : Bool). cond q (waiting (o .member) side lim n) absent) (eq-eqb mk mk refl))
 
   waits : WaitingOk (r .hi .0) (r .lo .0) side lim n
@@ -257,11 +257,11 @@ module _ (h : Exchange) (y : History) (i : Inv h y) (k : ℕ) (hk : k < 64) (o :
 
   -- places, whatever the market's round becomes, if its parts are at work as b1's are
   places2 : (c : Current) → ((j : ℕ) → j < 64 → atWork (partIn c j) ≡ atWork (b1 .part j))
-      → (j : ℕ) → j < 64 → (a : ℕ) → 0 < a → a < 4 → atWork (partIn (put (y .rounds) mk c a) j) ≡ saysIn (ticket h2 j) a
+      → (j : ℕ) → j < 64 → (a : ℕ) → 0 < a → a < 4 → atWork (partIn (put (y .rounds) mk c a) j) ≡ enteredIn (ticket h2 j) a
   places2 c same =
       places-part h k (restingOr o rest) kl (y .rounds) mk b q1 c er (oOk .market-low) (oOk .market-high) same
       (sym (says-resting o rest mk))
-      (λ a d. ap (λ t. saysIn t a) et ∙ ap (λ (q : Bool). cond q (waiting (o .member) side lim n) absent) (ne-eqb a mk d) ∙ sym (says-resting o rest a))
+      (λ a d. ap (λ t. enteredIn t a) et ∙ ap (λ (q : Bool). cond q (waiting (o .member) side lim n) absent) (ne-eqb a mk d) ∙ sym (says-resting o rest a))
       (i .places)
 
   accounts2 : (j : ℕ) → j < 16 → (u : ℕ) → u < 4 → balance h2 j u + y2 .debits j u ≡ y2 .credits j u
@@ -386,7 +386,7 @@ module _ (h : Exchange) (y : History) (i : Inv h y) (k : ℕ) (hk : k < 64) (o :
         ended-well =
             cons
             (record {
-              covered = record { covered = covers (r .hi .0) (r .lo .0) b1 parts1 within1 empty1 };
+              pays = round-pays round1;
               fewer = λ pos. fewer-of mk b1 (ticketCount b1) (oOk .market-low) pos (leaves (r .hi .0) (r .lo .0) b1 parts1 within1 empty1 (none-waiting b1 last) pos);
               nothing-put = λ e x. absurd (omega (arith, has-ticket));
             })

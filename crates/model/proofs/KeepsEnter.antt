@@ -10,7 +10,7 @@ use Rattle.model.specs.Calls.{enterDone, enterTests, enteredRound}
 use Rattle.model.specs.History.{Current, G, History, P, Part, PlacedOrder, RoundLog, T, absent, cameIn, collecting, given, holds, logOf, movedOut, offerOn, put, running, taken, traded, waiting, wentOut, whenSame, withAccepted, withEnter, withEvent, withPart, withRound}
 use Rattle.model.specs.Sides.{offered, other}
 use Rattle.model.specs.State.{isClosed, isCollect, orderIn, phase, residue, roundIn, supply, ticket, totalsOf, withPhase, withTicket}
-use Rattle.model.specs.WholeRun.{balances, currentHolds, holdsOf, placedIn, resting, restingIn, roundsTotal}
+use Rattle.model.specs.WholeRun.{atWork, balances, currentHolds, enteredIn, holdsOf, partIn, placedIn, resting, restingIn, roundsTotal}
 use Rattle.model.specs.declared.state.Exchange.{Exchange}
 use Rattle.model.specs.declared.state.Order.{Order}
 use Rattle.model.specs.declared.state.Phase.the-variants.{Collect}
@@ -24,7 +24,7 @@ use Rattle.ticket_set.specs.TicketSet.{inserted}
 use Rattle.units.specs.Counts.{largest}
 use Rattle.units.specs.Sums.{only}
 use Rattle.model.proofs.Frames.{each-ticket, markets-set, offered-lt, offered-split, places-part, tickets-set}
-use Rattle.model.proofs.Inv.{Inv, MarketOk, PartOk, Quiet, RoundOk, atWork, changed-at, collect-is, partIn, resting-is, running-is, saysIn}
+use Rattle.model.proofs.Inv.{Inv, MarketOk, PartOk, Quiet, RoundOk, changed-at, collect-is, resting-is, running-is}
 use Rattle.model.proofs.Reading.{Sized, inRounds-set, put-each, put-same, resting-set, sized-phase, sized-ticket}
 use Rattle.model.proofs.Rounds.{G-part, P-part, T-part, absent-is, cameIn-part, held-within, marks-part, part-early, went-zero, wentOut-part}
 use Rattle.ticket_set.proofs.Bits.{bit-inserted-other, bit-inserted-same, inserted-lt}
@@ -93,7 +93,7 @@ module _ (h : Exchange) (y : History) (i : Inv h y) (k : ℕ) (hk : k < 64) (o :
       absent-is collecting (λ e. e) (r .hi .0) (r .lo .0) b (b .part k) (rOk .parts k hk)
       (ap (λ (c : Current). atWork (partIn c k)) (sym er)
       ∙ i .places k hk mk (oOk .market-low) (oOk .market-high)
-      ∙ ap (λ (t : TicketState). saysIn t mk) et)
+      ∙ ap (λ (t : TicketState). enteredIn t mk) et)
 
   T1 : (x : Side) → T b1 x ≡ T b x + whenSame x side n
   T1 x = omega (arith, T-part b k q1 hk x, ap (offerOn x) part-is)
@@ -217,7 +217,7 @@ module _ (h : Exchange) (y : History) (i : Inv h y) (k : ℕ) (hk : k < 64) (o :
         places =
             places-part h1 k (Entered o) kl (y .rounds) mk b q1 (running b1) er (oOk .market-low) (oOk .market-high) (λ j hj. refl)
             (sym (ap (λ (v : Bool). cond v q1 absent) (eq-eqb mk mk refl)))
-            (λ a d. ap (λ t. saysIn t a) et ∙ sym (ap (λ (v : Bool). cond v q1 absent) (ne-eqb a mk d)))
+            (λ a d. ap (λ t. enteredIn t a) et ∙ sym (ap (λ (v : Bool). cond v q1 absent) (ne-eqb a mk d)))
             (i .places);
         markets = markets-set h mk (Collect r1) (y .rounds) (running b1) (oOk .market-low) (omega (arith, i .sized .markets, oOk .market-high)) (round1, quiet1) (i .markets);
         conserved = conserved1;

@@ -7,18 +7,19 @@ use Rattle.model.specs.Bounds.{heldIn}
 use Rattle.model.specs.Calls.{matchDone, matchTests, matchedRound, tradeOf}
 use Rattle.model.specs.History.{Current, G, History, P, RoundLog, T, auctioning, cameIn, collecting, logOf, running, wentOut, withAccepted, withEvent, withMatch, withRound}
 use Rattle.model.specs.State.{isClosed, isCollect, phase, roundIn, totalsOf, withBlock, withPhase}
-use Rattle.model.specs.WholeRun.{currentHolds, holdsOf}
+use Rattle.model.specs.WholeRun.{atWork, currentHolds, holdsOf, partIn}
 use Rattle.model.specs.declared.state.Exchange.{Exchange}
 use Rattle.model.specs.declared.state.Phase.the-variants.{Auction, Collect}
 use Rattle.model.specs.declared.state.Round.{Round}
+use Rattle.pricing.specs.Laws.{Rate, TradeFits}
 use Rattle.pricing.specs.declared.Side.{Side}
 use Rattle.pricing.specs.declared.Side.the-variants.{Buy, Sell}
 use Rattle.units.specs.Counts.{largest}
 use Rattle.model.proofs.Frames.{inside, phase-keeps}
-use Rattle.model.proofs.Inv.{Inv, MarketOk, Quiet, RoundOk, atWork, changed-at, collect-is, partIn, running-is}
+use Rattle.model.proofs.Inv.{Inv, MarketOk, Quiet, RoundOk, changed-at, collect-is, running-is}
 use Rattle.model.proofs.Rounds.{T-restaged, came-restaged, holdsOf-restaged, part-early, went-restaged}
-use Rattle.pricing.proofs.Limits.{Rate, rate-trade-buy, rate-trade-sell}
-use Rattle.pricing.proofs.Trades.{TradeFits, quote-some, trade-fits}
+use Rattle.pricing.proofs.Limits.{rate-trade-buy, rate-trade-sell}
+use Rattle.pricing.proofs.Trades.{quote-some, trade-fits}
 use Rattle.units.proofs.Decide.{Passed}
 use Rattle.model.specs.declared.call.Call.the-variants as Call
 

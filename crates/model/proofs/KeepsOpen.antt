@@ -10,7 +10,7 @@ use Rattle.model.specs.Bounds.{heldIn}
 use Rattle.model.specs.Calls.{openDone, openTests, openedRound, outside}
 use Rattle.model.specs.History.{Current, G, History, P, T, absent, cameIn, collecting, emptyLog, given, holds, idle, movedOut, openedOn, running, taken, traded, wentOut, withAccepted, withEvent, withRound}
 use Rattle.model.specs.State.{isClosed, phase, totalsOf}
-use Rattle.model.specs.WholeRun.{currentHolds, holdsOf}
+use Rattle.model.specs.WholeRun.{atWork, currentHolds, holdsOf, partIn}
 use Rattle.model.specs.declared.state.Exchange.{Exchange}
 use Rattle.model.specs.declared.state.Phase.{Phase}
 use Rattle.model.specs.declared.state.Phase.the-variants.{Closed, Collect}
@@ -19,7 +19,7 @@ use Rattle.pricing.specs.declared.Side.{Side}
 use Rattle.pricing.specs.declared.Side.the-variants.{Buy, Sell}
 use Rattle.units.specs.Sums.{only}
 use Rattle.model.proofs.Frames.{inside, phase-keeps}
-use Rattle.model.proofs.Inv.{Inv, MarketOk, Quiet, RoundOk, atWork, closed-is, idle-is, partIn}
+use Rattle.model.proofs.Inv.{Inv, MarketOk, Quiet, RoundOk, closed-is, idle-is}
 use Rattle.pricing.proofs.Limits.{rate-none}
 use Rattle.pricing.proofs.Prices.{high-le, le-high, low-le, low-pos}
 use Rattle.ticket_set.proofs.Laws.{bit-of-empty}

@@ -7,10 +7,10 @@ use lib.Dec.{eqb}
 use borrow.Author.Tests.{eqb-false, ltb-false, not-false}
 use Rattle.model.specs.Bounds.{OrderBounds, TicketBounds}
 use Rattle.model.specs.Calls.{cancelDone, cancelTests, orderDone, orderTests, outside}
-use Rattle.model.specs.History.{History, PlacedOrder, no-order, placed, tokenIn, withAccepted, withCredit, withEvent, withOrder}
+use Rattle.model.specs.History.{History, PlacedOrder, memberIn, no-order, placed, tokenIn, withAccepted, withCredit, withEvent, withOrder}
 use Rattle.model.specs.Sides.{offered, sideOf}
 use Rattle.model.specs.State.{balance, credit, debit, isFree, orderIn, ticket}
-use Rattle.model.specs.WholeRun.{placedIn, restingIn}
+use Rattle.model.specs.WholeRun.{enteredIn, placedIn, restingIn}
 use Rattle.model.specs.declared.state.Exchange.{Exchange}
 use Rattle.model.specs.declared.state.Order.{Order}
 use Rattle.model.specs.declared.state.TicketState.the-variants.{Free, Resting}
@@ -18,7 +18,7 @@ use Rattle.units.specs.Counts.{amount, price}
 use Rattle.units.specs.Sums.{only}
 use Rattle.ledger.proofs.Laws.{credited-total, debited-total}
 use Rattle.model.proofs.Frames.{inside, offered-lt, orders-set, places-set, tickets-set}
-use Rattle.model.proofs.Inv.{Inv, free-is, resting-is, saysIn}
+use Rattle.model.proofs.Inv.{Inv, free-is, resting-is}
 use Rattle.model.proofs.Reading.{Sized, account-credit, account-debit, resting-set, sized-credit, sized-debit, sized-ticket}
 use Rattle.units.proofs.Decide.{Passed, or-false}
 use Rattle.model.specs.declared.call.Call.the-variants as Call
@@ -46,7 +46,7 @@ order-keeps h y k m mk sd lim n i p =
       sized = sized-ticket h1 k (Resting o) z1;
       tickets = tickets-set h1 k (Resting o) (omega (arith, z1 .tickets)) ok (i .tickets);
       orders = orders-set h1 k (Resting o) (omega (arith, z1 .tickets)) (y .orders) (placed m mk (sideOf sd) lim n) refl (i .orders);
-      places = places-set h1 k (Resting o) (omega (arith, z1 .tickets)) (y .rounds) (λ a. sym (ap (λ t. saysIn t a) et)) (i .places);
+      places = places-set h1 k (Resting o) (omega (arith, z1 .tickets)) (y .rounds) (λ a. sym (ap (λ t. enteredIn t a) et)) (i .places);
       markets = i .markets;
       conserved =
           λ u hu. omega (
@@ -65,38 +65,37 @@ order-keeps h y k m mk sd lim n i p =
     }
 
 pub cancel-keeps : (h : Exchange) (y : History) (k m : ℕ) → Inv h y → Passed (cancelTests h k m)
-    → Inv (cancelDone h k m .exchange) (withEvent y (Call.Cancel k m) (cancelDone h k m .answer))
+    → Inv (cancelDone h k .exchange) (withEvent y (Call.Cancel k m) (cancelDone h k .answer))
 unfolding withEvent withAccepted
 cancel-keeps h y k m i p =
     let o : Order = orderIn (ticket h k) in
     let tok : ℕ = offered (o .side) (o .market) in
-    let hm : m ≤ 15 = ltb-false 15 m (p .0) in
     let hk : k ≤ 63 = ltb-false 63 k (p .1 .0) in
     let lk : k < 64 = omega arith in
     let et : ticket h k ≡ Resting o = resting-is (ticket h k) (or-false (isFree (ticket h k)) (not (eqb (o .member) m)) (p .1 .1 .0) .0) (p .1 .1 .1 .0) in
     let ok : OrderBounds o = subst TicketBounds et (i .tickets k lk) in
-    let h1 : Exchange = credit h m tok (o .offer .0) in
-    let z1 : Sized h1 = sized-credit h m tok (o .offer .0) (i .sized) in
+    let h1 : Exchange = credit h (o .member) tok (o .offer .0) in
+    let z1 : Sized h1 = sized-credit h (o .member) tok (o .offer .0) (i .sized) in
     let er : (u : ℕ) → restingIn (ticket h k) u ≡ only tok (o .offer .0) u = λ u. ap (λ t. restingIn t u) et in
     let ey : y .orders k ≡ placedIn (Resting o) = i .orders k lk ∙ ap placedIn et in
-    subst (λ (v : PlacedOrder). Inv (cancelDone h k m .exchange) (withCredit (withOrder y k no-order) m (tokenIn v) (o .offer .0))) (sym ey)
+    subst (λ (v : PlacedOrder). Inv (cancelDone h k .exchange) (withCredit (withOrder y k no-order) (memberIn v) (tokenIn v) (o .offer .0))) (sym ey)
     (record {
       sized = sized-ticket h1 k Free z1;
       tickets = tickets-set h1 k Free (omega (arith, z1 .tickets)) tt (i .tickets);
       orders = orders-set h1 k Free (omega (arith, z1 .tickets)) (y .orders) no-order refl (i .orders);
-      places = places-set h1 k Free (omega (arith, z1 .tickets)) (y .rounds) (λ a. sym (ap (λ t. saysIn t a) et)) (i .places);
+      places = places-set h1 k Free (omega (arith, z1 .tickets)) (y .rounds) (λ a. sym (ap (λ t. enteredIn t a) et)) (i .places);
       markets = i .markets;
       conserved =
           λ u hu. omega (
             arith,
-            credited-total (h .ledger) m tok (o .offer .0) (i .sized .shaped) (omega arith) (offered-lt (o .side) (o .market) (ok .market-high)) u,
+            credited-total (h .ledger) (o .member) tok (o .offer .0) (i .sized .shaped) (ok .member) (offered-lt (o .side) (o .market) (ok .market-high)) u,
             resting-set h1 k Free z1 lk u,
             er u,
             i .conserved u hu,
           );
       supplied = i .supplied;
       bounded = i .bounded;
-      accounts = account-credit (h .ledger) (y .credits) (y .debits) (i .sized .shaped) m tok (o .offer .0) (omega arith) (offered-lt (o .side) (o .market) (ok .market-high)) (i .accounts);
+      accounts = account-credit (h .ledger) (y .credits) (y .debits) (i .sized .shaped) (o .member) tok (o .offer .0) (ok .member) (offered-lt (o .side) (o .market) (ok .market-high)) (i .accounts);
       residue-is = i .residue-is;
       ended-well = i .ended-well;
       limits = i .limits;

@@ -9,7 +9,7 @@ use borrow.Author.Tests.{eqb-true, not-false}
 use Rattle.model.specs.Calls.{settleDone, settleTests, settledPhase}
 use Rattle.model.specs.History.{Current, G, History, P, RoundLog, T, absent, auctioning, cameIn, endOrRound, given, holds, idle, isTicket, logOf, offerOn, running, settled, ticketCount, waitingCount, wentOut, withAccepted, withEnd, withEvent, withRound, withSettle}
 use Rattle.model.specs.State.{isAuction, isClosed, phase, residue, roundIn, withBlock, withPhase}
-use Rattle.model.specs.WholeRun.{cons, currentHolds, holdsOf, putBy}
+use Rattle.model.specs.WholeRun.{atWork, cons, currentHolds, holdsOf, partIn, putBy}
 use Rattle.model.specs.declared.state.Exchange.{Exchange}
 use Rattle.model.specs.declared.state.Phase.the-variants.{Auction, Closed, Paying}
 use Rattle.model.specs.declared.state.Round.{Round}
@@ -17,9 +17,10 @@ use Rattle.pricing.specs.declared.Side.{Side}
 use Rattle.pricing.specs.declared.Side.the-variants.{Buy, Sell}
 use Rattle.units.specs.Sums.{only, sumOver}
 use Rattle.model.proofs.Frames.{inside, markets-set, phase-keeps, places-round}
-use Rattle.model.proofs.Inv.{Inv, MarketOk, RoundOk, atWork, auction-is, ended-at, partIn, running-is}
+use Rattle.model.proofs.Inv.{Inv, MarketOk, RoundOk, auction-is, ended-at, running-is}
+use Rattle.model.proofs.KeepsClaim.{pays}
 use Rattle.model.proofs.Reading.{inRounds-set, sized-block, sized-phase}
-use Rattle.model.proofs.Rounds.{T-restaged, absent-is, came-restaged, covers, holdsOf-restaged, marks-count, none-waiting, over-work, part-early, went-restaged}
+use Rattle.model.proofs.Rounds.{T-restaged, absent-is, came-restaged, holdsOf-restaged, marks-count, none-waiting, over-work, part-early, round-pays, went-restaged}
 use Rattle.units.proofs.Decide.{Passed}
 use Rattle.units.proofs.Sums.{only-zero, sum-zero}
 use Rattle.model.specs.declared.call.Call.the-variants as Call
@@ -128,7 +129,7 @@ module _ (h : Exchange) (y : History) (i : Inv h y) (mk at : ℕ) (pos : 0 < mk)
           ended-well =
               cons
               (record {
-                covered = record { covered = covers (r .hi .0) (r .lo .0) b1 (round1 .parts) (round1 .within) (round1 .empty) };
+                pays = round-pays round1;
                 fewer = λ p x. absurd (omega (arith, no-tickets));
                 nothing-put = λ e u. holdsOf-zero u;
               })

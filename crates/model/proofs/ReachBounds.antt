@@ -6,23 +6,25 @@ use Rattle.model.specs.Bounds.{AuctionBounds, ClaimBounds, CollectBounds
 use Rattle.model.specs.History.{Current, G, History, P, Part, RoundLog, Stage, absent, auctioning, cameIn, claimed, collecting, holds, idle, isWaiting, logOf, movedOut, running, taken, waiting, wentOut}
 use Rattle.model.specs.Sides.{other}
 use Rattle.model.specs.State.{balance, isClosed, phase, residue, roundIn, supply, ticket, totalsOf}
-use Rattle.model.specs.WholeRun.{currentHolds, holdsOf, resting, restingIn, restingTotal, roundsTotal}
+use Rattle.model.specs.WholeRun.{atWork, currentHolds, enteredIn, holdsOf, orderWith, partIn, resting, restingIn, restingTotal, roundsTotal}
 use Rattle.model.specs.declared.state.Exchange.{Exchange}
 use Rattle.model.specs.declared.state.Order.{Order}
 use Rattle.model.specs.declared.state.Phase.{Phase}
 use Rattle.model.specs.declared.state.Phase.the-variants.{Auction, Closed, Collect, Paying}
 use Rattle.model.specs.declared.state.Round.{Round}
+use Rattle.model.specs.declared.state.TicketState.{TicketState}
 use Rattle.model.specs.declared.state.TicketState.the-variants.{Entered, Resting}
 use Rattle.pricing.specs.declared.Side.{Side}
 use Rattle.pricing.specs.declared.Side.the-variants.{Buy, Sell}
 use Rattle.ticket_set.specs.TicketSet.{bit}
 use Rattle.units.specs.Sums.{only}
 use Rattle.ledger.proofs.Laws.{balance-le-total}
+use Rattle.model.proofs.Inv.{Inv, MarketOk, Quiet, RoundOk, running-is}
 use Rattle.model.proofs.KeepsClaim.{moved-le, offer-le, part-is, rOk, s-le}
-use Rattle.model.proofs.ReachClock.{reachable-clock}
-use Rattle.model.proofs.Inv.{Inv, MarketOk, Quiet, RoundOk, atWork, partIn, running-is, saysIn}
 use Rattle.model.proofs.Reach.{reachable-inv}
+use Rattle.model.proofs.ReachClock.{reachable-clock}
 use Rattle.model.proofs.Rounds.{went-zero}
+use Rattle.model.proofs.WholeRun.{entered-of}
 use Rattle.ticket_set.proofs.Laws.{bit-of-empty}
 use Rattle.units.proofs.Sums.{only-zero, term-le}
 
@@ -133,12 +135,22 @@ payment-of : (side : Side) (m limit n s got : ℕ) → got ≤ movedOut (other s
 payment-of Buy m limit n s got = omega arith
 payment-of Sell m limit n s got = omega arith
 
+-- a ticket whose part waits in a market's round is entered with an order of that market
+order-of : (t : TicketState) (mk : ℕ) (p : Part) → isWaiting p ≡ 1 → atWork p ≡ enteredIn t mk → (o : Order) × (o .market ≡ mk) × (t ≡ Entered o)
+order-of t mk absent w e = absurd (omega arith)
+order-of t mk (waiting m x l o) w e = (orderWith m mk x l o, refl, entered-of t m mk x l o (sym e))
+order-of t mk (claimed m x l o s got) w e = absurd (omega arith)
+
 module _ (x : Exchange) (y : History) (i : Inv x y) where
+  pub marked-order : (n : ℕ) → 0 < n → n < 4 → (k : ℕ) → k < 64 → bit (roundIn (phase x n) .tickets) k ≡ 1 → (o : Order) × (o .market ≡ n) × (ticket x k ≡ Entered o)
+  marked-order n p q k l e =
+      order-of (ticket x k) n (partIn (y .rounds n) k) (sym (marks-in (phase x n) (y .rounds n) (i .markets n p q) k l) ∙ e) (i .places k l n p q)
+
   rests1 : (k : ℕ) → k < 64 → (o : Order) → ticket x k ≡ Resting o → bit (roundIn (phase x (o .market)) .tickets) k ≡ 0
   rests1 k l o e =
       let ok : OrderBounds o = subst TicketBounds e (i .tickets k l) in
       marks-in (phase x (o .market)) (y .rounds (o .market)) (i .markets (o .market) (ok .market-low) (ok .market-high)) k l
-      ∙ not-waiting (partIn (y .rounds (o .market)) k) (i .places k l (o .market) (ok .market-low) (ok .market-high) ∙ ap (λ t. saysIn t (o .market)) e)
+      ∙ not-waiting (partIn (y .rounds (o .market)) k) (i .places k l (o .market) (ok .market-low) (ok .market-high) ∙ ap (λ t. enteredIn t (o .market)) e)
 
   claims1 : (k : ℕ) → k < 64 → (o : Order) (r : Round) → ticket x k ≡ Entered o → phase x (o .market) ≡ Paying r → ClaimBounds r k o (shareIn r o) (gotIn r o)
   claims1 k l o r et ep =
@@ -184,6 +196,7 @@ reachable-bounded x l =
       ticket-bounds = i .tickets;
       phase-bounds = λ n p q. phase-ok (phase x n) (y .rounds n) (i .markets n p q);
       rests = rests1 x y i;
+      marked = marked-order x y i;
       claims = claims1 x y i;
       opened = λ n p q. c .past n p q .opened;
       started = λ n p q. c .past n p q .start;

@@ -87,7 +87,7 @@ module _ (h : Exchange) (y : History) (i : Inv h y) (k : Clock h) where
   step-clock (Call.Deposit m t n) = by-tests h (depositTests h m t n) (depositDone h m t n) k (λ p. record { past = k .past })
   step-clock (Call.Withdraw m t n) = by-tests h (withdrawTests h m t n) (withdrawDone h m t n) k (λ p. record { past = k .past })
   step-clock (Call.Order a m mk sd lim n) = by-tests h (orderTests h a m mk sd lim n) (orderDone h a m mk sd lim n) k (λ p. record { past = k .past })
-  step-clock (Call.Cancel a m) = by-tests h (cancelTests h a m) (cancelDone h a m) k (λ p. record { past = k .past })
+  step-clock (Call.Cancel a m) = by-tests h (cancelTests h a m) (cancelDone h a) k (λ p. record { past = k .past })
   step-clock (Call.Open mk at r w len) =
       by-tests h (openTests h mk at r w len) (openDone h mk at r w len) k
       (λ p.

@@ -6,13 +6,14 @@ use native.Mathlib.Nat.{eq-zero-or-pos}
 use native.Mathlib.Omega.{arith}
 use Rattle.model.specs.History.{Current, G, P, Part, RoundLog, Stage, T, absent, cameIn, claimed, holds, isWaiting, movedOut, offerOn, put, running, settled, taken, ticketCount, waiting, waitingCount, wentOut, withPart}
 use Rattle.model.specs.Sides.{offered, other}
-use Rattle.model.specs.WholeRun.{currentHolds, holdsOf, roundsTotal}
+use Rattle.model.specs.WholeRun.{RoundPays, atWork, currentHolds, holdsOf, roundsTotal}
+use Rattle.model.specs.declared.state.Round.{Round}
 use Rattle.pricing.specs.Prices.{shareGot, sharePaid}
 use Rattle.pricing.specs.declared.Side.{Side}
 use Rattle.pricing.specs.declared.Side.the-variants.{Buy, Sell}
 use Rattle.ticket_set.specs.TicketSet.{bit, countOf}
 use Rattle.units.specs.Sums.{only, sumTo}
-use Rattle.model.proofs.Inv.{ClaimedOk, ClaimsAt, PartOk, atWork}
+use Rattle.model.proofs.Inv.{ClaimedOk, ClaimsAt, PartOk, RoundOk, claimed-ok}
 use Rattle.model.proofs.Reading.{put-each, put-other, put-same}
 use Rattle.model.proofs.SideLaw.{SideLaw, countOn, gotSum, on, on-both, paidSum, side-law}
 use Rattle.pricing.proofs.Shares.{got-none, paid-le-offer, paid-none}
@@ -232,3 +233,15 @@ held-within (suc j) f b x p l e =
     part : (x : Side) → holds b x ≤ holdsOf (suc j) b (offered x (suc j))
     part Buy = omega (arith, only-same 0 (holds b Buy))
     part Sell = omega (arith, only-same (suc j) (holds b Sell))
+
+-- ---- what the statement says of a round
+
+pub round-pays : {g : Stage} {r : Round} {b : RoundLog} → RoundOk g r b → RoundPays b
+round-pays {g} {r} {b} k =
+    record {
+      covered = λ x. omega (arith, k .held x);
+      shares =
+          λ j lj m x l o s got e.
+          let w = claimed-ok g (r .hi .0) (r .lo .0) b (b .part j) (k .parts j lj) m x l o s got e in
+          (w .s-is, w .got-is);
+    }

@@ -11,10 +11,10 @@ use Rattle.model.specs.Answers.{answerLine}
 use Rattle.model.specs.Bounds.{TicketBounds}
 use Rattle.model.specs.Calls.{bidDone, bidOf, bidTests, cancelDone, cancelOf, cancelTests, claimDone, claimOf, claimTests, claimWith, depositDone, depositOf, depositTests, enterDone, enterOf, enterTests, matchDone, matchOf, matchTests, openDone, openOf, openTests, orderDone, orderOf, orderTests, refuse, settleDone, settleOf, settleTests, withdrawDone, withdrawOf, withdrawTests}
 use Rattle.model.specs.Codes.{doneOf, testsOf}
-use Rattle.model.specs.History.{Current, G, History, P, Part, RoundLog, Stage, T, absent, historyFrom, historyOf, idle, noHistory, running, settled, waiting, withEvent}
+use Rattle.model.specs.History.{Current, G, History, P, Part, RoundLog, T, absent, historyFrom, historyOf, idle, noHistory, running, settled, waiting, withEvent}
 use Rattle.model.specs.Run.{Request, eventsOf, requestOf, stateAfter, stepOf}
 use Rattle.model.specs.State.{closedMarket, freeTicket, freshExchange, isEntered, isFree, isPaying, orderIn, phase, roundIn, ticket}
-use Rattle.model.specs.WholeRun.{Covered, PaysOut, SettledTicket, Whole, WholeRun, nil, orderWith, placedIn, putBy, restingIn, restingTotal, roundsTotal}
+use Rattle.model.specs.WholeRun.{PaysOut, RoundPays, SettledTicket, Whole, WholeRun, atWork, enteredIn, nil, orderWith, partIn, placedIn, putBy, restingIn, restingTotal, roundsTotal}
 use Rattle.model.specs.declared.answer.Answer.the-variants.{Accepted, Refused}
 use Rattle.model.specs.declared.answer.Outcome.{Outcome}
 use Rattle.model.specs.declared.answer.Refusal.{Refusal}
@@ -36,16 +36,17 @@ use Rattle.units.specs.Decide.{Test, decide}
 use Rattle.units.specs.Sums.{sumOver}
 use Rattle.units.specs.declared.Amount.{Amount}
 use Rattle.ledger.proofs.Laws.{fresh-balance, fresh-shaped, fresh-total}
+use Rattle.model.proofs.Codes.{codes-rising}
+use Rattle.model.proofs.Inv.{Inv, MarketOk}
 use Rattle.model.proofs.KeepsBid.{bid-keeps}
 use Rattle.model.proofs.KeepsClaim.{claim-keeps, pays, shares-are}
-use Rattle.model.proofs.Codes.{codes-rising}
 use Rattle.model.proofs.KeepsEnter.{enter-keeps}
 use Rattle.model.proofs.KeepsFunding.{deposit-keeps, withdraw-keeps}
-use Rattle.model.proofs.Inv.{Inv, MarketOk, RoundOk, atWork, partIn, saysIn}
 use Rattle.model.proofs.KeepsMatch.{match-keeps}
 use Rattle.model.proofs.KeepsOpen.{open-keeps}
 use Rattle.model.proofs.KeepsOrders.{cancel-keeps, order-keeps}
 use Rattle.model.proofs.KeepsSettle.{settle-keeps}
+use Rattle.model.proofs.Rounds.{round-pays}
 use Rattle.units.proofs.Decide.{Passed, decide-passed, decided}
 use Rattle.units.proofs.Sums.{sum-zero}
 use Rattle.model.specs.declared.call.Call.the-variants as Call
@@ -66,7 +67,7 @@ unfolding stepOf depositOf withdrawOf orderOf cancelOf openOf enterOf matchOf bi
 step-keeps h y i (Call.Deposit m t n) = by-tests h y (Call.Deposit m t n) (depositTests h m t n) (depositDone h m t n) i (λ p. deposit-keeps h y m t n _ _ i p)
 step-keeps h y i (Call.Withdraw m t n) = by-tests h y (Call.Withdraw m t n) (withdrawTests h m t n) (withdrawDone h m t n) i (λ p. withdraw-keeps h y m t n _ _ i p)
 step-keeps h y i (Call.Order k m mk sd lim n) = by-tests h y (Call.Order k m mk sd lim n) (orderTests h k m mk sd lim n) (orderDone h k m mk sd lim n) i (λ p. order-keeps h y k m mk sd lim n i p)
-step-keeps h y i (Call.Cancel k m) = by-tests h y (Call.Cancel k m) (cancelTests h k m) (cancelDone h k m) i (λ p. cancel-keeps h y k m i p)
+step-keeps h y i (Call.Cancel k m) = by-tests h y (Call.Cancel k m) (cancelTests h k m) (cancelDone h k) i (λ p. cancel-keeps h y k m i p)
 step-keeps h y i (Call.Open mk at r w len) = by-tests h y (Call.Open mk at r w len) (openTests h mk at r w len) (openDone h mk at r w len) i (λ p. open-keeps h y mk at r w len i p)
 step-keeps h y i (Call.Enter k) = by-tests h y (Call.Enter k) (enterTests h k) (enterDone h k) i (λ p. enter-keeps h y k i p)
 step-keeps h y i (Call.Match mk at) = by-tests h y (Call.Match mk at) (matchTests h mk at) (matchDone h mk at) i (λ p. match-keeps h y mk at i p)
@@ -117,7 +118,7 @@ fresh-inv =
       sized = record { shaped = fresh-shaped; supplies = refl; residues = refl; tickets = refl; markets = refl };
       tickets = λ k l. subst TicketBounds (sym (fresh-ticket k l)) tt;
       orders = λ k l. sym (ap placedIn (fresh-ticket k l));
-      places = λ k l n p q. sym (ap (λ s. saysIn s n) (fresh-ticket k l));
+      places = λ k l n p q. sym (ap (λ s. enteredIn s n) (fresh-ticket k l));
       markets = λ n p l. subst (λ (v : Phase). MarketOk v idle) (sym (fresh-phase n l)) tt;
       conserved = λ t l. omega (arith, fresh-total t l, fresh-resting t, fresh-rounds t, zeros t l);
       supplied = λ t l. omega (arith, zeros t l);
@@ -130,14 +131,11 @@ fresh-inv =
 
 -- ---- the statement from the invariant
 
-covered-by : {g : Stage} {r : Round} {b : RoundLog} → RoundOk g r b → Covered b
-covered-by k = record { covered = λ x. omega (arith, k .held x) }
-
-solvent-in : (p : Phase) (b : RoundLog) → MarketOk p (running b) → Covered b
+solvent-in : (p : Phase) (b : RoundLog) → MarketOk p (running b) → RoundPays b
 solvent-in Closed b k = absurd k
-solvent-in (Collect r) b k = covered-by (k .0)
-solvent-in (Auction r) b k = covered-by k
-solvent-in (Paying r) b k = covered-by k
+solvent-in (Collect r) b k = round-pays (k .0)
+solvent-in (Auction r) b k = round-pays k
+solvent-in (Paying r) b k = round-pays k
 
 paying-round : (p : Phase) (b : RoundLog) → MarketOk p (running b) → b .stage ≡ settled → p ≡ Paying (roundIn p)
 paying-round Closed b k e = absurd k
@@ -175,7 +173,7 @@ same-order : (m m′ mk mk′ : ℕ) (x x′ : Side) (l l′ n n′ : ℕ) → m
 same-order m m′ mk mk′ x x′ l l′ n n′ a b c d e = rw (a, b, c, d, e)
 
 -- a ticket whose part waits in a market's round is entered there, with that part's order
-pub entered-of : (s : TicketState) (member market : ℕ) (side : Side) (limit o : ℕ) → saysIn s market ≡ waiting member side limit o
+pub entered-of : (s : TicketState) (member market : ℕ) (side : Side) (limit o : ℕ) → enteredIn s market ≡ waiting member side limit o
     → s ≡ Entered (orderWith member market side limit o)
 entered-of Free member market side limit o e = absurd (let z : _≡_ {A = ℕ} 0 1 = cc in omega arith)
 entered-of (Resting d) member market side limit o e = absurd (let z : _≡_ {A = ℕ} 0 1 = cc in omega arith)
@@ -263,6 +261,7 @@ whole-of h y i =
       supplied = i .supplied;
       accounts = i .accounts;
       tickets-are = λ k l. sym (i .orders k l);
+      places-are = λ k l n p q. sym (i .places k l n p q);
       refused-stays = λ q why e. refused-leaves h q why e;
       solvent = λ n p l b e. solvent-in (phase h n) b (subst (MarketOk (phase h n)) e (i .markets n p l));
       settled-pays =

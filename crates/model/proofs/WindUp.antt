@@ -11,27 +11,27 @@ use borrow.Author.Tests.{eq-eqb, le-ltb, lt-ltb, ne-eqb}
 use Rattle.model.specs.Answers.{codeOf}
 use Rattle.model.specs.Calls.{above, claimWith, claimedRound, payingOrClosed, refuse, settleDone, settleOf, settleTests, settleWith, settledPhase, unfilled}
 use Rattle.model.specs.Closing.{AllAccepted, BackToClosed, CanClose, Names, WindsUp, afterCalls, next-call, no-call, times}
-use Rattle.model.specs.History.{Current, History, Part, RoundLog, absent, auctioning, claimed, isWaiting, logOf, running, settled, waiting}
+use Rattle.model.specs.History.{History, auctioning, logOf, running}
 use Rattle.model.specs.Run.{Reachable, after-call, stepOf}
 use Rattle.model.specs.Sides.{wanted}
 use Rattle.model.specs.State.{closedMarket, credit, isAuction, isClosed, lastBlock, phase, restingOr, roundIn, ticket, toResidue, totalsOf, withPhase, withTicket}
-use Rattle.model.specs.WholeRun.{orderWith}
 use Rattle.model.specs.declared.answer.Outcome.{Outcome}
 use Rattle.model.specs.declared.state.Exchange.{Exchange}
 use Rattle.model.specs.declared.state.Market.{Market}
 use Rattle.model.specs.declared.state.Order.{Order}
+use Rattle.model.specs.declared.state.Phase.{Phase}
 use Rattle.model.specs.declared.state.Phase.the-variants.{Auction, Closed, Paying}
 use Rattle.model.specs.declared.state.Round.{Round}
-use Rattle.model.specs.declared.state.TicketState.{TicketState}
 use Rattle.model.specs.declared.state.TicketState.the-variants.{Entered}
 use Rattle.pricing.specs.Prices.{shareGot, sharePaid}
 use Rattle.pricing.specs.declared.Totals.{Totals}
 use Rattle.ticket_set.specs.TicketSet.{bit, countOf, removed}
 use Rattle.units.specs.Counts.{largest}
-use Rattle.model.proofs.Inv.{Inv, MarketOk, RoundOk, atWork, partIn, running-is, saysIn}
+use Rattle.model.proofs.Inv.{Inv, MarketOk, RoundOk, running-is}
 use Rattle.model.proofs.Reach.{reachable-inv}
+use Rattle.model.proofs.ReachBounds.{marked-order}
 use Rattle.model.proofs.Reading.{Sized, phase-same}
-use Rattle.model.proofs.WholeRun.{claim-passes, entered-of}
+use Rattle.model.proofs.WholeRun.{claim-passes}
 use Rattle.ticket_set.proofs.Bits.{bit-lt, bit-removed-other, bit-removed-same, removed-lt}
 use Rattle.ticket_set.proofs.Laws.{bit-high, count-le, count-removed}
 use Rattle.units.proofs.Decide.{decide-passed}
@@ -156,12 +156,6 @@ paying-phase x mk r pos l = go (eqb (countOf (r .tickets)) 0)
     go true = phase-same (toResidue (toResidue x 0 (r .quote .0)) mk (r .base .0)) mk Closed pos l
     go false = phase-same x mk (Paying r) pos l
 
--- a ticket whose part waits in a market's round is entered with an order of that market
-order-of : (t : TicketState) (mk : ℕ) (p : Part) → isWaiting p ≡ 1 → atWork p ≡ saysIn t mk → (o : Order) × (o .market ≡ mk) × (t ≡ Entered o)
-order-of t mk absent w e = absurd (omega arith)
-order-of t mk (waiting m x l o) w e = (orderWith m mk x l o, refl, entered-of t m mk x l o (sym e))
-order-of t mk (claimed m x l o s got) w e = absurd (omega arith)
-
 module _ (x : Exchange) (y : History) (i : Inv x y) (mk : ℕ) (pos : 0 < mk) (lt4 : mk < 4) (r : Round) (ep : phase x mk ≡ Paying r)
     (k : ℕ) (hk : k < 64) where
   -- a ticket with an order of the market
@@ -186,12 +180,7 @@ module _ (x : Exchange) (y : History) (i : Inv x y) (mk : ℕ) (pos : 0 < mk) (l
   -- a ticket that the round marks
   claim-taken : bit (r .tickets) k ≡ 1 → Claimed x mk k (r .tickets)
   claim-taken e =
-      let er : y .rounds mk ≡ running (logOf (y .rounds mk)) = running-is (phase x mk) (y .rounds mk) (ap isClosed ep) (i .markets mk pos lt4) in
-      let b : RoundLog = logOf (y .rounds mk) in
-      let ok : RoundOk settled r b = subst₂ MarketOk ep er (i .markets mk pos lt4) in
-      let w : isWaiting (b .part k) ≡ 1 = sym (ok .marks k hk) ∙ e in
-      let p : atWork (b .part k) ≡ saysIn (ticket x k) mk = sym (ap (λ (c : Current). atWork (partIn c k)) er) ∙ i .places k hk mk pos lt4 in
-      let o = order-of (ticket x k) mk (b .part k) w p in
+      let o = marked-order x y i mk pos lt4 k hk (ap (λ (p : Phase). bit (roundIn p .tickets) k) ep ∙ e) in
       claimed-order (o .0) (o .1) (o .2)
 
 -- one claim for each ticket marked: all are accepted, and the market is closed

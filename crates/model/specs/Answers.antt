@@ -31,6 +31,7 @@ refusalCode Refusal.InsufficientBalance = 19
 refusalCode Refusal.MalformedLine = 20
 refusalCode Refusal.BufferTooShort = 21
 
+-- the code and the two numbers
 abbrev pub codeOf : Answer → ℕ
 codeOf (Accepted a b) = 0
 codeOf (Refused r) = refusalCode r

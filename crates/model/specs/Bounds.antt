@@ -24,6 +24,7 @@ use Rattle.model.specs.WholeRun.{restingIn}
 
 -- ---- orders and rounds
 
+-- an order of a ticket in use: its member, its market, and a limit and an offer of at least 1
 pub record OrderBounds (o : Order) : Type 0 where
   pub member : o .member < 16
   pub market-low : 0 < o .market
@@ -83,6 +84,7 @@ pub record ClaimBounds (r : Round) (k : ℕ) (o : Order) (s got : ℕ) : Type 0 
   pub refund : o .offer .0 - s ≤ heldIn r (o .side)
   pub payment : got ≤ heldIn r (other (o .side))
 
+-- claim's s and got of an order in its round
 abbrev pub shareIn : Round → Order → ℕ
 shareIn r o = sharePaid (o .offer .0) (totalsOf r (o .side) .paid .0) (totalsOf r (o .side) .total .0)
 
@@ -110,8 +112,11 @@ pub record Bounded (x : Exchange) : Type 0 where
   -- tickets and rounds
   pub ticket-bounds : (k : ℕ) → k < 64 → TicketBounds (ticket x k)
   pub phase-bounds : (n : ℕ) → 0 < n → n < 4 → PhaseBounds (phase x n)
-  -- a ticket that rests is in no round, and one that entered is covered by its round once that pays
+  -- a ticket that rests is in no round, one in a round's set entered there, and one that entered is covered by its round once that pays
   pub rests : (k : ℕ) → k < 64 → (o : Order) → ticket x k ≡ Resting o → bit (roundIn (phase x (o .market)) .tickets) k ≡ 0
+  pub marked :
+      (n : ℕ) → 0 < n → n < 4 → (k : ℕ) → k < 64 → bit (roundIn (phase x n) .tickets) k ≡ 1
+      → (o : Order) × (o .market ≡ n) × (ticket x k ≡ Entered o)
   pub claims :
       (k : ℕ) → k < 64 → (o : Order) (r : Round) → ticket x k ≡ Entered o → phase x (o .market) ≡ Paying r
       → ClaimBounds r k o (shareIn r o) (gotIn r o)

@@ -1,6 +1,7 @@
 -- The ten calls. Each has its tests, "in rising number the conditions that name it, and those of 1 to 5 whose field it has", and then what
--- an accepted call answers and leaves. A test compares sums, so that it means what it says for every number. The differences that an accepted
--- call works out are exact in every state that calls can leave (specs/Bounds.antt).
+-- an accepted call answers and leaves. A test compares sums, so that it means what it says for every number; only k and the price under bid's
+-- 17 to 19 are differences, exact since 12 and 16 go before them. The differences that an accepted call works out are exact in every state that
+-- calls can leave (specs/Bounds.antt).
 use Prim.Native.Nat.{ℕ, _+_, _-_}
 use mathlib.Core.Bool.{Bool, not, cond, _||_, _&&_}
 use mathlib.Core.List.{List, [], _∷_}
@@ -119,16 +120,16 @@ cancelTests x k member =
     ∷ []
 
 -- "Returns what is left; the ticket is free. Answers that amount, 0"
-abbrev pub cancelWith : Exchange → ℕ → ℕ → Order → Outcome
-cancelWith x k member o =
+abbrev pub cancelWith : Exchange → ℕ → Order → Outcome
+cancelWith x k o =
     accept (o .offer .0) 0
-    (withTicket (credit x member (offered (o .side) (o .market)) (o .offer .0)) k Free)
+    (withTicket (credit x (o .member) (offered (o .side) (o .market)) (o .offer .0)) k Free)
 
-abbrev pub cancelDone : Exchange → ℕ → ℕ → Outcome
-cancelDone x k member = cancelWith x k member (orderIn (ticket x k))
+abbrev pub cancelDone : Exchange → ℕ → Outcome
+cancelDone x k = cancelWith x k (orderIn (ticket x k))
 
 unfoldable pub cancelOf : Exchange → ℕ → ℕ → Outcome
-cancelOf x k member = decide (cancelTests x k member) (refuse x) (cancelDone x k member)
+cancelOf x k member = decide (cancelTests x k member) (refuse x) (cancelDone x k)
 
 -- ---- 5 Open: market, block, reference price r, slack w, auction length L
 
@@ -140,6 +141,7 @@ openTests x market at r w len =
     ∷ when (below at (lastBlock x)) StaleBlock
     ∷ []
 
+-- a round as it opens: its terms, and nothing entered
 abbrev pub openedRound : ℕ → ℕ → ℕ → ℕ → Round
 openedRound at r w len =
     record {
@@ -180,6 +182,7 @@ enterTests x k =
     ∷ when (offLimit (o .side) (o .limit .0) (r .hi .0) (r .lo .0)) LimitOutOfBounds
     ∷ []
 
+-- a side with n more offered
 abbrev pub plusTotal : Totals → ℕ → Totals
 plusTotal t n = record { total = amount (t .total .0 + n); paid = t .paid; got = t .got }
 
@@ -279,6 +282,7 @@ bidTests x market member at side n bound =
 abbrev pub plusTrade : Totals → ℕ → ℕ → Totals
 plusTrade t paid got = record { total = t .total; paid = amount (t .paid .0 + paid); got = amount (t .got .0 + got) }
 
+-- n base for q quote on a side, and what the round then holds: "plus what makers gave, less what makers took"
 abbrev pub bidRound : Round → Side → ℕ → ℕ → Round
 bidRound r side n q =
     withHeld

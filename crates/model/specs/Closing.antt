@@ -52,7 +52,7 @@ WindsUp =
     → (at : ℕ) → r .start .0 + r .length < at → lastBlock x ≤ at
     → (ks : List ℕ) → Names (r .tickets) ks → BackToClosed x market at ks
 
--- and such calls are there, where start + L is below 4,294,967,295
+-- and such calls are there, where start + L is below 4,294,967,295 and the last block fits 32 bits, as its type says
 abbrev pub CanClose : Type 0
 CanClose =
     (x : Exchange) → Reachable x → lastBlock x ≤ largest → (market : ℕ) (r : Round) → phase x market ≡ Auction r

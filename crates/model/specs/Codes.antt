@@ -30,7 +30,7 @@ abbrev pub doneOf : Exchange → Call → Outcome
 doneOf x (Call.Deposit member token n) = depositDone x member token n
 doneOf x (Call.Withdraw member token n) = withdrawDone x member token n
 doneOf x (Call.Order k member market side limit n) = orderDone x k member market side limit n
-doneOf x (Call.Cancel k member) = cancelDone x k member
+doneOf x (Call.Cancel k member) = cancelDone x k
 doneOf x (Call.Open market at r w len) = openDone x market at r w len
 doneOf x (Call.Enter k) = enterDone x k
 doneOf x (Call.Match market at) = matchDone x market at

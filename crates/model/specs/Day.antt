@@ -11,26 +11,26 @@ use Rattle.model.specs.Scripts.{requestsFrom, Accounts, accounts, Member
 -- ---- the day
 
 -- lines 1 to 5, 6 to 9, 10 and 11, and 12 to 14
-unfoldable pub orders : List Call
-orders = Deposit 0 0 1000 ∷ Deposit 1 1 300 ∷ Deposit 2 0 500 ∷ Order 0 0 1 0 3000000 600 ∷ Order 1 1 1 1 2000000 300 ∷ []
+unfoldable pub dayOrders : List Call
+dayOrders = Deposit 0 0 1000 ∷ Deposit 1 1 300 ∷ Deposit 2 0 500 ∷ Order 0 0 1 0 3000000 600 ∷ Order 1 1 1 1 2000000 300 ∷ []
 
-unfoldable pub collected : List Call
-collected = Open 1 10 2500000 100000 10 ∷ Enter 0 ∷ Enter 1 ∷ Match 1 14 ∷ []
+unfoldable pub dayCollect : List Call
+dayCollect = Open 1 10 2500000 100000 10 ∷ Enter 0 ∷ Enter 1 ∷ Match 1 14 ∷ []
 
-unfoldable pub auctioned : List Call
-auctioned = Bid 1 2 19 1 60 160 ∷ Settle 1 19 ∷ []
+unfoldable pub dayAuction : List Call
+dayAuction = Bid 1 2 19 1 60 160 ∷ Settle 1 19 ∷ []
 
-unfoldable pub paid : List Call
-paid = Claim 0 ∷ Claim 1 ∷ Withdraw 1 0 751 ∷ []
+unfoldable pub dayClaims : List Call
+dayClaims = Claim 0 ∷ Claim 1 ∷ Withdraw 1 0 751 ∷ []
 
 abbrev pub untilMatch : List Call
-untilMatch = orders ++ collected
+untilMatch = dayOrders ++ dayCollect
 
 abbrev pub untilSettle : List Call
-untilSettle = untilMatch ++ auctioned
+untilSettle = untilMatch ++ dayAuction
 
 abbrev pub day : List Call
-day = untilSettle ++ paid
+day = untilSettle ++ dayClaims
 
 -- ---- what it prints
 
@@ -87,10 +87,10 @@ printedLines =
 -- the day with this room for line 6, and 80 for every other
 abbrev pub roomAtOpen : ℕ → List Request
 roomAtOpen room =
-    requestsFrom 1 80 orders
+    requestsFrom 1 80 dayOrders
     ++ (record { line = 6; room = room; call = Open 1 10 2500000 100000 10 } ∷ [])
     ++ requestsFrom 7 80 (Enter 0 ∷ Enter 1 ∷ Match 1 14 ∷ [])
-    ++ requestsFrom 10 80 (auctioned ++ paid)
+    ++ requestsFrom 10 80 (dayAuction ++ dayClaims)
 
 -- one byte less: the open is not done, so no ticket enters a round, and member 1 has no quote
 unfoldable pub shortAtOpen : List (ℕ × ℕ × ℕ)
@@ -121,8 +121,8 @@ refusedIn room = requestsFrom 1 room (Deposit 16 0 1 ∷ [])
 unfoldable pub dayAccounts : List Accounts
 dayAccounts =
     -- after line 5 the offers rest
-    accounts orders 0 900 600 0 0 0 1500
-    ∷ accounts orders 1 0 300 0 0 0 300
+    accounts dayOrders 0 900 600 0 0 0 1500
+    ∷ accounts dayOrders 1 0 300 0 0 0 300
     -- after line 9 the round holds them: "Match and settle move nothing out"
     ∷ accounts untilMatch 0 900 0 600 0 0 1500
     ∷ accounts untilMatch 1 0 0 300 0 0 300

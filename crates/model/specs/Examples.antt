@@ -173,6 +173,7 @@ collected =
     -- Q 607, S 300: 607 / 2.5 is 242.8, m 242; c 242 × 2.5
     ∷ accepted (Match 1 14) 242 605
     ∷ refused (Match 1 14) 11
+    ∷ refused (Open 1 14 2500000 100000 10) 11
     ∷ refused (Open 2 13 2500000 100000 10) 12
     -- 9 and 11; 11 and 15
     ∷ refused (Enter 0) 9

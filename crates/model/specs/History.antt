@@ -25,6 +25,7 @@ abbrev pub marketIn : PlacedOrder → ℕ
 marketIn no-order = 0
 marketIn (placed member market side limit left) = market
 
+-- an order with so much left, or none
 abbrev pub placedOr : (member market : ℕ) (side : Side) (limit left : ℕ) → PlacedOrder
 placedOr member market side limit zero = no-order
 placedOr member market side limit (suc n) = placed member market side limit (suc n)
@@ -42,10 +43,12 @@ pub data Part : Type 0 where
   waiting : (member : ℕ) (side : Side) (limit o : ℕ) → Part
   claimed : (member : ℕ) (side : Side) (limit o s got : ℕ) → Part
 
+-- the part with which a ticket's order enters
 abbrev pub partOf : PlacedOrder → Part
 partOf no-order = absent
 partOf (placed member market side limit left) = waiting member side limit left
 
+-- a part that waited, claimed with s and got
 abbrev pub claimedAs : Part → ℕ → ℕ → Part
 claimedAs absent s got = absent
 claimedAs (waiting member side limit o) s got = claimed member side limit o s got
@@ -316,7 +319,7 @@ withAccepted y (Call.Deposit member token n) a b = withCredit (withDeposit y tok
 withAccepted y (Call.Withdraw member token n) a b = withDebit (withWithdrawal y token n) member token n
 withAccepted y (Call.Order k member market side limit n) a b =
     withDebit (withOrder y k (placed member market (sideOf side) limit n)) member (offered (sideOf side) market) n
-withAccepted y (Call.Cancel k member) left b = withCredit (withOrder y k no-order) member (tokenIn (y .orders k)) left
+withAccepted y (Call.Cancel k member) left b = withCredit (withOrder y k no-order) (memberIn (y .orders k)) (tokenIn (y .orders k)) left
 withAccepted y (Call.Open market at r w len) hi lo = withRound y market (openedOn (y .rounds market))
 withAccepted y (Call.Enter k) a b = withEnter y k (y .orders k)
 withAccepted y (Call.Match market at) m c = withRound y market (changedAt collecting (λ b. withMatch b m c) (y .rounds market))

@@ -3,6 +3,7 @@ use Prim.Native.Nat.{ℕ, zero, suc}
 use Rattle.pricing.specs.declared.Side.{Side}
 use Rattle.pricing.specs.declared.Side.the-variants.{Buy, Sell}
 
+-- the side of a field; one above 1 is refused (5) before it is looked at
 abbrev pub sideOf : ℕ → Side
 sideOf zero = Buy
 sideOf (suc n) = Sell

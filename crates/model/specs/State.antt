@@ -21,6 +21,7 @@ use Rattle.model.specs.declared.state.Exchange.{Exchange}
 
 -- ---- balances, supply, residue, last block
 
+-- the balance of member m in token t
 abbrev pub balance : Exchange → ℕ → ℕ → ℕ
 balance x m t = balanceIn (x .ledger) m t
 
@@ -32,6 +33,7 @@ supply x t = getD (x .supply) t (amount 0) .0
 abbrev pub residue : Exchange → ℕ → ℕ
 residue x t = getD (x .residue) t (amount 0) .0
 
+-- "The last block number accepted, shared by all markets"
 abbrev pub lastBlock : Exchange → ℕ
 lastBlock x = x .last .0
 
@@ -43,6 +45,7 @@ blankOrder = record { member = 0; market = 0; side = Buy; limit = price 0; offer
 abbrev pub freeTicket : Ticket
 freeTicket = record { state = Free }
 
+-- what ticket k is: "free, resting, or in a round"
 abbrev pub ticket : Exchange → ℕ → TicketState
 ticket x k = getD (x .tickets) k freeTicket .state
 
@@ -82,6 +85,7 @@ abbrev pub marketAt : List Market → ℕ → Market
 marketAt ms zero = closedMarket
 marketAt ms (suc i) = getD ms i closedMarket
 
+-- "Phase: closed, collect, auction, paying"
 abbrev pub phase : Exchange → ℕ → Phase
 phase x n = marketAt (x .markets) n .phase
 
@@ -135,6 +139,7 @@ isPaying (Collect r) = false
 isPaying (Auction r) = false
 isPaying (Paying r) = true
 
+-- the total T, paid P and got G of a side
 abbrev pub totalsOf : Round → Side → Totals
 totalsOf r Buy = r .buys
 totalsOf r Sell = r .sells
@@ -188,12 +193,14 @@ abbrev pub withBlock : Exchange → ℕ → Exchange
 withBlock x b =
     record { ledger = x .ledger; supply = x .supply; residue = x .residue; tickets = x .tickets; markets = x .markets; last = block b }
 
+-- n more, and n less, of token t for member m
 abbrev pub credit : Exchange → ℕ → ℕ → ℕ → Exchange
 credit x m t n = withLedger x (credited (x .ledger) m t n)
 
 abbrev pub debit : Exchange → ℕ → ℕ → ℕ → Exchange
 debit x m t n = withLedger x (debited (x .ledger) m t n)
 
+-- "into the tray"
 abbrev pub toResidue : Exchange → ℕ → ℕ → Exchange
 toResidue x t n = withResidue x t (residue x t + n)
 

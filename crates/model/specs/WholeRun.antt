@@ -1,9 +1,13 @@
 -- Demand 3: one statement about every list of requests from the fresh state, of any engine. It uses of the engine only the answers that it gave
--- and what is read off the state: balances, tickets and the residue, as document 01 has it, and beside them the supply that refusal 14 looks at.
--- An engine that refuses every call meets it: that calls are accepted when they should be is what the calls' own definitions say.
+-- and what is read off the state: balances, tickets and the residue, as document 01 has it, the supply that refusal 14 looks at, and that a
+-- refusal leaves the whole state.
+-- It does not look at blocks, phases, which code refuses, the prices of matches and bids within the tickets' limits, a maker's bound, and the
+-- numbers that the kinds 1, 2, 3, 5, 6 and 9 answer: the calls' own definitions fix those. So an engine that refuses every call meets it.
 use Prim.Native.Nat.{ℕ, suc, _+_, _-_, _≤_, _<_}
 use mathlib.Core.Path.{_≡_}
+use mathlib.Core.Bool.{cond}
 use mathlib.Core.List.{List, [], _∷_}
+use lib.Dec.{eqb}
 use lib.ListN.{length, getD}
 use Rattle.units.specs.Counts.{amount, price}
 use Rattle.units.specs.Sums.{sumTo, sumOver, only}
@@ -24,7 +28,7 @@ use Rattle.model.specs.Sides.{offered, wanted}
 use Rattle.model.specs.State.{balance, supply, residue, ticket, freeTicket, restingOr, freshExchange}
 use Rattle.model.specs.Answers.{answerLine}
 use Rattle.model.specs.Run.{Request, Engine, requestOf, eventsOf, stateAfter}
-use Rattle.model.specs.History.{PlacedOrder, no-order, placed, waiting, settled, RoundLog, Current, idle, running, T, P, G, cameIn, wentOut, holds, ticketCount, Payout, EndedRound, History, historyOf}
+use Rattle.model.specs.History.{PlacedOrder, no-order, placed, Part, absent, waiting, claimed, settled, RoundLog, Current, idle, running, T, P, G, cameIn, wentOut, holds, ticketCount, Payout, EndedRound, History, historyOf}
 
 -- ---- read off the state
 
@@ -44,6 +48,12 @@ restingTotal ts t = sumTo 64 (λ k. restingIn (getD ts k freeTicket .state) t)
 abbrev pub resting : Exchange → ℕ → ℕ
 resting x t = restingTotal (x .tickets) t
 
+-- the part with which a ticket is in market n's round
+abbrev pub enteredIn : TicketState → ℕ → Part
+enteredIn Free n = absent
+enteredIn (Resting o) n = absent
+enteredIn (Entered o) n = cond (eqb n (o .market)) (waiting (o .member) (o .side) (o .limit .0) (o .offer .0)) absent
+
 -- the order of a ticket in use, as history tells it
 abbrev pub placedIn : TicketState → PlacedOrder
 placedIn Free = no-order
@@ -51,6 +61,17 @@ placedIn (Resting o) = placed (o .member) (o .market) (o .side) (o .limit .0) (o
 placedIn (Entered o) = placed (o .member) (o .market) (o .side) (o .limit .0) (o .offer .0)
 
 -- ---- worked from history
+
+-- a ticket's part in a market's round
+abbrev pub partIn : Current → ℕ → Part
+partIn idle k = absent
+partIn (running b) k = b .part k
+
+-- a part that waits for its claim; one that was claimed is over
+abbrev pub atWork : Part → Part
+atWork absent = absent
+atWork (waiting member side limit o) = waiting member side limit o
+atWork (claimed member side limit o s got) = absent
 
 -- what a market's round holds of token t
 abbrev pub holdsOf : ℕ → RoundLog → ℕ → ℕ
@@ -82,13 +103,16 @@ pub data All {A : Type 0} (Q : A → Type 0) : List A → Type 0 where
 pub record LimitKept (p : Payout) : Type 0 where
   pub kept : fetches (p .side) (p .limit) (p .s - 1) ≤ p .got
 
--- a round never pays out more than came in
-pub record Covered (b : RoundLog) : Type 0 where
+-- a round never pays out more than came in, and every claim of it was its full share
+pub record RoundPays (b : RoundLog) : Type 0 where
   pub covered : (side : Side) → wentOut b side ≤ cameIn b side
+  pub shares :
+      (k : ℕ) → k < 64 → (member : ℕ) (side : Side) (limit o s got : ℕ) → b .part k ≡ claimed member side limit o s got
+      → (s ≡ sharePaid o (P b side) (T b side)) × (got ≡ shareGot o (G b side) (T b side))
 
 -- a round that ended leaves fewer units of each token than it had tickets, and nothing where it had none
 pub record EndedWell (e : EndedRound) : Type 0 where
-  pub covered : Covered (e .log)
+  pub pays : RoundPays (e .log)
   pub fewer : 0 < ticketCount (e .log) → (t : ℕ) → putBy t e < ticketCount (e .log)
   pub nothing-put : ticketCount (e .log) ≡ 0 → (t : ℕ) → putBy t e ≡ 0
 
@@ -125,8 +149,10 @@ pub record Whole (f : Engine) (x : Exchange) (y : History) : Type 0 where
   pub accounts : (m : ℕ) → m < 16 → (t : ℕ) → t < 4 → balance x m t + y .debits m t ≡ y .credits m t
   -- every ticket's order is the one placed there, with its amount less the s of its claims
   pub tickets-are : (k : ℕ) → k < 64 → placedIn (ticket x k) ≡ y .orders k
-  -- a running round can pay what it owes
-  pub solvent : (n : ℕ) → 0 < n → n < 4 → (b : RoundLog) → y .rounds n ≡ running b → Covered b
+  -- and a ticket is in just the round in which it waits
+  pub places-are : (k : ℕ) → k < 64 → (n : ℕ) → 0 < n → n < 4 → enteredIn (ticket x k) n ≡ atWork (partIn (y .rounds n) k)
+  -- a running round can pay what it owes, and has paid each claim its full share
+  pub solvent : (n : ℕ) → 0 < n → n < 4 → (b : RoundLog) → y .rounds n ≡ running b → RoundPays b
   -- a request that is refused leaves the state
   pub refused-stays : (q : Request) (why : Refusal) → f x q .answer ≡ Refused why → f x q .exchange ≡ x
   -- every settled ticket's claim, with room for its line, is accepted and pays its full share, worked from history

@@ -28,6 +28,7 @@ pub enum Refusal {
     BufferTooShort,
 }
 
+// Accepted with its two numbers, or refused: "Code 0 is acceptance".
 pub enum Answer {
     Accepted(u32, u32),
     Refused(Refusal),
@@ -39,6 +40,7 @@ pub struct Outcome {
     pub exchange: Exchange,
 }
 
+// The paper's number of a refusal.
 pub fn refusal_code(why: Refusal) -> u32
     ensures { λ r. ⌜ r ≡ refusalCode why ⌝ }
 {
@@ -67,6 +69,7 @@ pub fn refusal_code(why: Refusal) -> u32
     }
 }
 
+// An answer's code.
 pub fn code(answer: Answer) -> u32
     ensures { λ r. ⌜ r ≡ codeOf answer ⌝ }
 {
@@ -76,6 +79,7 @@ pub fn code(answer: Answer) -> u32
     }
 }
 
+// An answer's first number, 0 where it is refused.
 pub fn first(answer: Answer) -> u32
     ensures { λ r. ⌜ r ≡ firstOf answer ⌝ }
 {
@@ -85,6 +89,7 @@ pub fn first(answer: Answer) -> u32
     }
 }
 
+// An answer's second number, 0 where it is refused.
 pub fn second(answer: Answer) -> u32
     ensures { λ r. ⌜ r ≡ secondOf answer ⌝ }
 {

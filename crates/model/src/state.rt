@@ -24,12 +24,14 @@ pub enum TicketState {
     Entered(Order),
 }
 
+// One of the 64 tickets.
 pub struct Ticket {
     pub state: TicketState,
 }
 
 // A round from its open on. reference, hi and lo are its prices, length its auction's blocks, opened and start the blocks
-// of its open and its match (0 before it), tickets the set of its tickets, quote and base what it holds.
+// of its open and its match (0 before it), tickets the set of its tickets, buys and sells its sides (their totals are the
+// paper's Q and S), quote and base what it holds.
 pub struct Round {
     pub reference: Price,
     pub hi: Price,
@@ -44,6 +46,7 @@ pub struct Round {
     pub base: Amount,
 }
 
+// "Phase: closed, collect, auction, paying"; a closed market has no numbers.
 pub enum Phase {
     Closed,
     Collect(Round),
@@ -51,6 +54,7 @@ pub enum Phase {
     Paying(Round),
 }
 
+// One of the markets 1 to 3.
 pub struct Market {
     pub phase: Phase,
 }

@@ -1,26 +1,20 @@
 -- The limit law: what a side trades keeps the round's bound, so each of its tickets gets its limit.
-use mathlib.Core.Path.{_≡_}
-use mathlib.Core.Bool.{false}
-use Prim.Native.Nat.{ℕ, _+_, _-_, _*_, _≤_, _<_}
+use Prim.Native.Nat.{_*_, _+_, _-_, _<_, _≤_, ℕ}
 use native.Mathlib.Nat.{le-of-mul-le-mul-left, mul-le-mul-left, mul-le-mul-right, mul-sub}
 use native.Mathlib.Omega.{arith}
+use lib.Dec.{T}
 use borrow.Author.Tests.{ltb-false}
-use Rattle.units.specs.Counts.{million}
-use Rattle.units.specs.Rounding.{down, up}
-use Rattle.units.proofs.Rounding.{down-low, up-low, up-high, le-down}
+use Rattle.pricing.specs.Laws.{LimitsHold, Rate, TradeFits}
+use Rattle.pricing.specs.Prices.{fetches, quoteFor, shareGot, sharePaid}
 use Rattle.pricing.specs.declared.Side.{Side}
 use Rattle.pricing.specs.declared.Side.the-variants.{Buy, Sell}
 use Rattle.pricing.specs.declared.Trade.{Trade}
-use Rattle.pricing.specs.Prices.{offLimit, quoteFor, sharePaid, shareGot, fetches}
+use Rattle.units.specs.Counts.{million}
+use Rattle.units.specs.Rounding.{down, up}
 use Rattle.pricing.proofs.Prices.{million-pos}
-use Rattle.pricing.proofs.Trades.{TradeFits}
+use Rattle.units.proofs.Rounding.{down-low, le-down, up-high, up-low}
 
 -- ---- the rate of a side
-
--- a side that paid P and got G kept the round's bound: buys paid at most hi, and sells got at least lo
-abbrev pub Rate : Side → ℕ → ℕ → ℕ → ℕ → Type 0
-Rate Buy hi lo P G = P * million ≤ G * hi
-Rate Sell hi lo P G = P * lo ≤ G * million
 
 -- a side that paid nothing keeps it
 pub rate-none : (x : Side) (hi lo G : ℕ) → Rate x hi lo 0 G
@@ -65,8 +59,7 @@ limit-law o P G T a b hT hb lim =
     le-down (o * G) T x hT (le-of-mul-le-mul-left all hb)
 
 -- a ticket whose limit enter took gets at least what one unit less than it pays fetches at that limit
-pub limit-kept : (x : Side) (limit hi lo o P G T : ℕ) → 0 < T → 0 < limit → offLimit x limit hi lo ≡ false → Rate x hi lo P G →
-    fetches x limit (sharePaid o P T - 1) ≤ shareGot o G T
+pub limit-kept : LimitsHold
 unfolding fetches
 limit-kept Buy limit hi lo o P G T hT hl e r =
     let l : hi ≤ limit = ltb-false _ _ e in limit-law o P G T million limit hT hl (omega (arith, mul-le-mul-left G l))

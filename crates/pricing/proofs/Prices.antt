@@ -1,15 +1,16 @@
 -- Laws of a round's bounds and of the auction's prices.
+use Prim.Native.Nat.{_*_, _+_, _-_, _<_, _≤_, suc, zero, ℕ}
 use mathlib.Core.Path.{_≡_, refl}
-use Prim.Native.Nat.{ℕ, zero, suc, _+_, _-_, _*_, _≤_, _<_}
-use native.Mathlib.Nat.{le-of-mul-le-mul-left, mul-le-mul-left, mul-le-mul, mul-zero, zero-mul, le-antisymm}
+use native.Mathlib.Nat.{le-antisymm, le-of-mul-le-mul-left, mul-le-mul, mul-le-mul-left, mul-zero, zero-mul}
 use native.Mathlib.Omega.{arith}
 use lib.Dec.{lit<}
-use Rattle.units.specs.Counts.{million}
-use Rattle.units.specs.Rounding.{down}
-use Rattle.units.proofs.Rounding.{down-low, up-low, le-down, down-mono, part-down-le, part-up-le, whole-down}
+use Rattle.pricing.specs.Laws.{Moves, PricesWithin}
+use Rattle.pricing.specs.Prices.{auctionPrice, highBound, lowBound}
 use Rattle.pricing.specs.declared.Side.{Side}
 use Rattle.pricing.specs.declared.Side.the-variants.{Buy, Sell}
-use Rattle.pricing.specs.Prices.{highBound, lowBound, auctionPrice}
+use Rattle.units.specs.Counts.{million}
+use Rattle.units.specs.Rounding.{down}
+use Rattle.units.proofs.Rounding.{down-low, down-mono, le-down, part-down-le, part-up-le, up-low, whole-down}
 
 -- a million is not 0
 pub million-pos : 0 < million
@@ -50,7 +51,7 @@ low-pos r w h g =
 -- ---- bid: the auction's prices
 
 -- a price lies within the bounds
-pub price-within : (x : Side) (hi lo k len : ℕ) → lo ≤ hi → 0 < len → k ≤ len → (lo ≤ auctionPrice x hi lo k len) × (auctionPrice x hi lo k len ≤ hi)
+pub price-within : PricesWithin
 unfolding auctionPrice
 price-within Buy hi lo k len b h g = (omega arith, omega (arith, part-down-le (hi - lo) k len h g))
 price-within Sell hi lo k len b h g = (omega (arith, part-down-le (hi - lo) k len h g), omega arith)
@@ -73,11 +74,6 @@ sell-low-only-at-end hi lo k len b h g e =
     let whole : down (d * k) len ≡ d = omega (arith, part-down-le d k len h g) in
     let low : d * len ≤ d * k = omega (arith, rw whole at (down-low (d * k) len)) in
     le-antisymm g (le-of-mul-le-mul-left low (omega arith))
-
--- from a to b as a side's price moves: the buys' rises, the sells' falls
-abbrev pub Moves : Side → ℕ → ℕ → Type 0
-Moves Buy a b = a ≤ b
-Moves Sell a b = b ≤ a
 
 -- the distance gone grows with the blocks
 step-grows : (d j k len : ℕ) → 0 < len → j ≤ k → down (d * j) len ≤ down (d * k) len

@@ -1,15 +1,17 @@
 -- Laws of shares, for either side: T is the side's total, P what it paid and G what it got.
-use mathlib.Core.Path.{_≡_}
+use Prim.Native.Nat.{_*_, _+_, _-_, _<_, _≤_, suc, zero, ℕ}
 use mathlib.Core.List.{List, [], _∷_}
-use Prim.Native.Nat.{ℕ, zero, suc, _+_, _-_, _*_, _≤_, _<_}
-use native.Mathlib.Nat.{lt-of-mul-lt-mul-left, le-of-mul-le-mul-left, mul-le-mul-right, zero-mul, le-antisymm}
+use mathlib.Core.Path.{_≡_}
+use native.Mathlib.Nat.{le-antisymm, le-of-mul-le-mul-left, lt-of-mul-lt-mul-left, mul-le-mul-right, zero-mul}
 use native.Mathlib.Omega.{arith}
+use lib.Dec.{T}
 use lib.ListN.{length}
+use Rattle.pricing.specs.Laws.{SharesHold}
+use Rattle.pricing.specs.Prices.{shareGot, sharePaid}
 use Rattle.units.specs.Rounding.{up}
 use Rattle.units.specs.Sums.{sumOver}
-use Rattle.units.proofs.Rounding.{down-low, down-high, up-low, up-high, up-le, part-up-le}
-use Rattle.pricing.specs.Prices.{sharePaid, shareGot}
 use Rattle.pricing.proofs.Prices.{down-none}
+use Rattle.units.proofs.Rounding.{down-high, down-low, part-up-le, up-high, up-le, up-low}
 
 -- ---- one share
 
@@ -68,18 +70,8 @@ refund-sum T P (o ∷ os) h g = omega (arith, refund-sum T P os h g, paid-le-off
 
 -- ---- the share law: os are all the offers of a side
 
-pub record ShareLaw (T P G : ℕ) (os : List ℕ) : Type 0 where
-  -- together the offers pay at least what the side paid, and less than one unit per offer more
-  pub paid-enough : P ≤ sumOver (λ o. sharePaid o P T) os
-  pub paid-close : 0 < length os → sumOver (λ o. sharePaid o P T) os < P + length os
-  -- together they get at most what the side got, and less than one unit per offer less
-  pub got-within : sumOver (λ o. shareGot o G T) os ≤ G
-  pub got-close : 0 < length os → G < sumOver (λ o. shareGot o G T) os + length os
-  -- what they take back is at most what the side did not pay
-  pub refunds-fit : P ≤ T → sumOver (λ o. o - sharePaid o P T) os ≤ T - P
-
 -- it holds of any offers that add up to the total
-pub share-law : (T P G : ℕ) (os : List ℕ) → 0 < T → sumOver (λ o. o) os ≡ T → ShareLaw T P G os
+pub share-law : SharesHold
 share-law T P G os h e =
     let enough : P ≤ sumOver (λ o. sharePaid o P T) os = le-of-mul-le-mul-left (rw e at (paid-sum-low T P os h)) h in record {
       paid-enough = enough;

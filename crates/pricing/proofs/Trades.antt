@@ -1,16 +1,17 @@
 -- Laws of match: what buys and sells trade fits both sides and keeps both bounds.
+use Prim.Native.Nat.{_*_, _≤_, min, ℕ}
+use mathlib.Core.Bool.{Bool, cond, false, true}
 use mathlib.Core.Path.{_≡_, refl}
-use mathlib.Core.Bool.{Bool, true, false, cond}
-use Prim.Native.Nat.{ℕ, _*_, _≤_, min}
 use native.Mathlib.Nat.{mul-le-mul-left, mul-le-mul-right}
 use native.Mathlib.Omega.{arith}
 use borrow.Author.Tests.{ltb-false}
+use Rattle.pricing.specs.Laws.{TradeFits, TradesFit}
+use Rattle.pricing.specs.Prices.{matchBase, matchQuote, trade, tradeWithin}
+use Rattle.pricing.specs.declared.Trade.{Trade}
 use Rattle.units.specs.Counts.{million}
 use Rattle.units.specs.Rounding.{down}
-use Rattle.units.proofs.Rounding.{down-low, up-low, up-le}
-use Rattle.pricing.specs.declared.Trade.{Trade}
-use Rattle.pricing.specs.Prices.{matchBase, matchQuote, trade, tradeWithin}
 use Rattle.pricing.proofs.Prices.{million-pos}
+use Rattle.units.proofs.Rounding.{down-low, up-le, up-low}
 
 -- the base of a match costs no more than the buys offer
 pub quote-le : (q s r : ℕ) → matchQuote (matchBase q s r) r ≤ q
@@ -20,15 +21,8 @@ quote-le q s r =
     let l : m ≤ down (q * million) r = omega arith in
     up-le (m * r) million q million-pos (omega (arith, mul-le-mul-left r l, down-low (q * million) r))
 
--- a trade takes no more than either side has, and its price lies within the bounds
-pub record TradeFits (q s lo hi : ℕ) (t : Trade) : Type 0 where
-  pub base-fits : t .base .0 ≤ s
-  pub quote-fits : t .quote .0 ≤ q
-  pub not-above : t .quote .0 * million ≤ hi * t .base .0
-  pub not-below : lo * t .base .0 ≤ t .quote .0 * million
-
 -- the trade of match fits
-pub trade-fits : (q s r hi lo : ℕ) → lo ≤ r → TradeFits q s lo hi (tradeWithin q s r hi)
+pub trade-fits : TradesFit
 unfolding tradeWithin matchBase matchQuote
 trade-fits q s r hi lo h = go _ (ltb-false _ _)
   where

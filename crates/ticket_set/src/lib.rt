@@ -9,8 +9,9 @@ pub enum Next {
     Nothing,
 }
 
-// Public for the crates above, which ask for a ticket below 64.
+// The functions below are public for the crates above, which ask for a ticket below 64.
 
+// Whether a ticket is a member.
 pub fn contains(set: u64, ticket: u32) -> bool
     requires { ⌜ ticket < 64 ⌝ }
     ensures { λ r. ⌜ r ≡ hasTicket set ticket ⌝ }
@@ -18,6 +19,7 @@ pub fn contains(set: u64, ticket: u32) -> bool
     (set >> ticket) % 2 == 1
 }
 
+// The set with a ticket, whether it was a member or not.
 pub fn insert(set: u64, ticket: u32) -> u64
     requires { ⌜ ticket < 64 ⌝ }
     ensures { λ r. ⌜ r ≡ inserted set ticket ⌝ }
@@ -25,6 +27,7 @@ pub fn insert(set: u64, ticket: u32) -> u64
     set | (1 << ticket)
 }
 
+// The set without a ticket, whether it was a member or not: its bit, where it is set, is taken off.
 pub fn remove(set: u64, ticket: u32) -> u64
     requires { ⌜ ticket < 64 ⌝ }
     ensures { λ r. ⌜ r ≡ removed set ticket ⌝ }

@@ -14,6 +14,7 @@ pub struct Block(pub u32);
 
 // The functions below are public for the crates above: their divisor is at least 1 there.
 
+// a / b, rounded down.
 pub fn div_down(a: u64, b: u64) -> u64
     requires { ⌜ 0 < b ⌝ }
     ensures { λ r. ⌜ r ≡ down a b ⌝ }
@@ -21,6 +22,7 @@ pub fn div_down(a: u64, b: u64) -> u64
     a / b
 }
 
+// a / b, rounded up.
 pub fn div_up(a: u64, b: u64) -> u64
     requires { ⌜ 0 < b ⌝ }
     ensures { λ r. ⌜ r ≡ up a b ⌝ }

@@ -1,7 +1,8 @@
 -- `ledger::balance` meets its contract.
+use mathlib.Core.Path.{sym}
 use native.Mathlib.Omega.{arith}
 use borrow.Author.Needs.{needs}
-use Rattle.units.proofs.Tests.{tests}
+use borrow.Author.Tests.{lt-ltb, le-ltb}
 use Rattle.ledger.specs.Postings.{balanceOf}
 use Rattle.ledger.proofs.Laws.{balance-done, balance-row}
 use Rattle.ledger.proofs.balance.Statement.{statement}
@@ -9,11 +10,11 @@ use Rattle.ledger.proofs.balance.Tie as tie
 
 returns : tie.Need-returns
 unfolding balanceOf
-returns c = search tests
+returns c = rw (lt-ltb _ _ (c .if1 .taken))
 
 returns-2 : tie.Need-returns-2
 unfolding balanceOf
-returns-2 c = search tests
+returns-2 c = rw (le-ltb _ _ (c .before .if1 .left), lt-ltb _ _ (c .if2 .taken))
 
 row-of-requires : tie.Need-row-of-requires
 row-of-requires c κs = search needs
@@ -24,7 +25,8 @@ cell-of-requires c κs = search needs
 returns-3 : tie.Need-returns-3
 returns-3 c =
     let s = c .before .before .before .before .args in
-    cc (balance-done (s .l) (s .member) (s .token) (omega arith) (omega arith), balance-row (s .l) (s .member) (s .token))
+    rw (c .cell-of .ensures, c .before .row-of .ensures, ← balance-row (s .l) (s .member) (s .token))
+    (sym (balance-done (s .l) (s .member) (s .token) (omega arith) (omega arith)))
 
 pub balance-spec : {M : Type 1} → statement M
 balance-spec = tie.close (tie.spec returns returns-2 row-of-requires cell-of-requires returns-3)

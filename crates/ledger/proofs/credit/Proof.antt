@@ -1,7 +1,8 @@
 -- `ledger::credit` meets its contract.
+use mathlib.Core.Path.{sym}
 use native.Mathlib.Omega.{arith}
 use borrow.Author.Needs.{needs}
-use Rattle.units.proofs.Tests.{tests}
+use borrow.Author.Tests.{lt-ltb}
 use Rattle.ledger.specs.Postings.{creditOf}
 use Rattle.ledger.proofs.Laws.{credit-by-row}
 use Rattle.ledger.proofs.credit.Statement.{statement}
@@ -9,7 +10,7 @@ use Rattle.ledger.proofs.credit.Tie as tie
 
 returns : tie.Need-returns
 unfolding creditOf
-returns c = search tests
+returns c = rw (lt-ltb _ _ (c .if1 .taken))
 
 row-of-requires : tie.Need-row-of-requires
 row-of-requires c κs = search needs
@@ -23,7 +24,8 @@ with-row-requires c κs = search needs
 returns-2 : tie.Need-returns-2
 returns-2 c =
     let s = c .before .before .before .before .before .args in
-    cc (credit-by-row (s .l) (s .member) (s .token) (s .n .0) (omega arith))
+    rw (c .with-row .ensures, c .before .before .credit-row .ensures, c .before .before .before .row-of .ensures)
+    (sym (credit-by-row (s .l) (s .member) (s .token) (s .n .0) (omega arith)))
 
 pub credit-spec : {M : Type 1} → statement M
 credit-spec =

@@ -1,6 +1,6 @@
 -- `ledger::credit_row` meets its contract.
 use borrow.Author.Needs.{needs}
-use Rattle.units.proofs.Tests.{tests}
+use borrow.Author.Tests.{lt-ltb, le-ltb}
 use Rattle.ledger.specs.Balances.{cellOf, withCell, creditedRow}
 use Rattle.ledger.specs.Postings.{creditRowOf}
 use Rattle.ledger.proofs.credit_row.Statement.{statement}
@@ -8,7 +8,7 @@ use Rattle.ledger.proofs.credit_row.Tie as tie
 
 returns : tie.Need-returns
 unfolding creditRowOf creditedRow withCell cellOf
-returns c = search tests
+returns c = rw (lt-ltb _ _ (c .if1 .taken))
 
 mul-cell : tie.Need-mul-cell
 mul-cell c = search needs
@@ -27,7 +27,7 @@ add-sum c = search needs
 
 returns-2 : tie.Need-returns-2
 unfolding creditRowOf creditedRow withCell cellOf
-returns-2 c = search tests
+returns-2 c = rw (le-ltb _ _ (c .before .before .before .before .if1 .left), lt-ltb _ _ (c .if2 .taken))
 
 cast-t20 : tie.Need-cast-t20
 cast-t20 c = search needs
@@ -40,7 +40,7 @@ element-set-from-new c = search needs
 
 returns-3 : tie.Need-returns-3
 unfolding creditRowOf creditedRow withCell cellOf
-returns-3 c = search tests
+returns-3 c = rw (le-ltb _ _ (c .before .before .before .before .if1 .left), le-ltb _ _ (c .if2 .left))
 
 pub credit-row-spec : {M : Type 1} → statement M
 credit-row-spec =

@@ -1,6 +1,6 @@
 -- `ledger::debit_row` meets its contract.
 use borrow.Author.Needs.{needs}
-use Rattle.units.proofs.Tests.{tests}
+use borrow.Author.Tests.{lt-ltb, le-ltb}
 use Rattle.ledger.specs.Balances.{cellOf, withCell, debitedRow}
 use Rattle.ledger.specs.Postings.{debitRowOf}
 use Rattle.ledger.proofs.debit_row.Statement.{statement}
@@ -8,7 +8,7 @@ use Rattle.ledger.proofs.debit_row.Tie as tie
 
 returns : tie.Need-returns
 unfolding debitRowOf debitedRow withCell cellOf
-returns c = search tests
+returns c = rw (lt-ltb _ _ (c .if1 .taken))
 
 mul-cell : tie.Need-mul-cell
 mul-cell c = search needs
@@ -18,7 +18,7 @@ element-copy-out-cell c = search needs
 
 returns-2 : tie.Need-returns-2
 unfolding debitRowOf debitedRow withCell cellOf
-returns-2 c = search tests
+returns-2 c = rw (le-ltb _ _ (c .before .before .if1 .left), lt-ltb _ _ (c .if2 .taken))
 
 mul-rest : tie.Need-mul-rest
 mul-rest c = search needs
@@ -28,7 +28,7 @@ element-set-from-rest c = search needs
 
 returns-3 : tie.Need-returns-3
 unfolding debitRowOf debitedRow withCell cellOf
-returns-3 c = search tests
+returns-3 c = rw (le-ltb _ _ (c .before .before .if1 .left), le-ltb _ _ (c .if2 .left))
 
 pub debit-row-spec : {M : Type 1} → statement M
 debit-row-spec =

@@ -1,0 +1,61 @@
+-- What is proved of prices, trades and shares, each once for all sides and tokens (the proofs stand in proofs/).
+use Prim.Native.Nat.{ℕ, _+_, _-_, _*_, _≤_, _<_}
+use mathlib.Core.Path.{_≡_}
+use mathlib.Core.Bool.{false}
+use mathlib.Core.List.{List}
+use lib.ListN.{length}
+use Rattle.units.specs.Counts.{million}
+use Rattle.units.specs.Sums.{sumOver}
+use Rattle.pricing.specs.declared.Side.{Side}
+use Rattle.pricing.specs.declared.Side.the-variants.{Buy, Sell}
+use Rattle.pricing.specs.declared.Trade.{Trade}
+use Rattle.pricing.specs.Prices.{offLimit, tradeWithin, auctionPrice, sharePaid, shareGot, fetches}
+
+-- from a to b as a side's price moves: the buys' rises, the sells' falls
+abbrev pub Moves : Side → ℕ → ℕ → Type 0
+Moves Buy a b = a ≤ b
+Moves Sell a b = b ≤ a
+
+-- a trade takes no more than either side has, and its price lies within the bounds
+pub record TradeFits (q s lo hi : ℕ) (t : Trade) : Type 0 where
+  pub base-fits : t .base .0 ≤ s
+  pub quote-fits : t .quote .0 ≤ q
+  pub not-above : t .quote .0 * million ≤ hi * t .base .0
+  pub not-below : lo * t .base .0 ≤ t .quote .0 * million
+
+-- the share law: offers os of a side that in all paid P and got G
+pub record ShareLaw (T P G : ℕ) (os : List ℕ) : Type 0 where
+  -- together the offers pay at least what the side paid, and less than one unit per offer more
+  pub paid-enough : P ≤ sumOver (λ o. sharePaid o P T) os
+  pub paid-close : 0 < length os → sumOver (λ o. sharePaid o P T) os < P + length os
+  -- together they get at most what the side got, and less than one unit per offer less
+  pub got-within : sumOver (λ o. shareGot o G T) os ≤ G
+  pub got-close : 0 < length os → G < sumOver (λ o. shareGot o G T) os + length os
+  -- what they take back is at most what the side did not pay
+  pub refunds-fit : P ≤ T → sumOver (λ o. o - sharePaid o P T) os ≤ T - P
+
+-- a side that paid P and got G kept the round's bound: buys paid at most hi, and sells got at least lo
+abbrev pub Rate : Side → ℕ → ℕ → ℕ → ℕ → Type 0
+Rate Buy hi lo P G = P * million ≤ G * hi
+Rate Sell hi lo P G = P * lo ≤ G * million
+
+-- ---- the laws
+
+-- an auction price lies between the bounds
+abbrev pub PricesWithin : Type 0
+PricesWithin =
+    (x : Side) (hi lo k len : ℕ) → lo ≤ hi → 0 < len → k ≤ len → (lo ≤ auctionPrice x hi lo k len) × (auctionPrice x hi lo k len ≤ hi)
+
+-- what a match trades fits both sides and both bounds
+abbrev pub TradesFit : Type 0
+TradesFit = (q s r hi lo : ℕ) → lo ≤ r → TradeFits q s lo hi (tradeWithin q s r hi)
+
+-- "Find the share's law once for all sides and tokens": offers of any side whose sum is its total T
+abbrev pub SharesHold : Type 0
+SharesHold = (T P G : ℕ) (os : List ℕ) → 0 < T → sumOver (λ o. o) os ≡ T → ShareLaw T P G os
+
+-- a ticket that entered within the round's bound gets at least what one unit less than it pays fetches at its limit
+abbrev pub LimitsHold : Type 0
+LimitsHold =
+    (x : Side) (limit hi lo o P G T : ℕ) → 0 < T → 0 < limit → offLimit x limit hi lo ≡ false → Rate x hi lo P G
+    → fetches x limit (sharePaid o P T - 1) ≤ shareGot o G T
