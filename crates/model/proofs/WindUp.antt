@@ -90,7 +90,7 @@ names-length s (k ∷ ks) h n =
 
 -- ---- the settle
 
--- nothing holds together with what does not
+-- once k is above L, nothing is too early, whatever is left
 and-none : (a : Bool) → (a && not true) ≡ false
 and-none true = refl
 and-none false = refl
