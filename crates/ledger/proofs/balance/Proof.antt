@@ -1,8 +1,13 @@
 -- `ledger::balance` meets its contract.
-use mathlib.Core.Path.{sym}
+use Prim.Native.Nat.{ℕ}
+use mathlib.Core.Path.{sym, ap, _∙_}
 use native.Mathlib.Omega.{arith}
 use borrow.Author.Needs.{needs}
 use borrow.Author.Tests.{lt-ltb, le-ltb}
+use Rattle.units.specs.Counts.{amount}
+use Rattle.ledger.specs.declared.Row.{Row}
+use Rattle.ledger.specs.declared.Entry.the-variants.{Done}
+use Rattle.ledger.specs.Balances.{cellOf}
 use Rattle.ledger.specs.Postings.{balanceOf}
 use Rattle.ledger.proofs.Laws.{balance-done, balance-row}
 use Rattle.ledger.proofs.balance.Statement.{statement}
@@ -25,8 +30,10 @@ cell-of-requires c κs = search needs
 returns-3 : tie.Need-returns-3
 returns-3 c =
     let s = c .before .before .before .before .args in
-    rw (c .cell-of .ensures, c .before .row-of .ensures, ← balance-row (s .l) (s .member) (s .token))
-    (sym (balance-done (s .l) (s .member) (s .token) (omega arith) (omega arith)))
+    ap Done (c .cell-of .ensures)
+    ∙ ap (λ (r : Row). Done (amount (cellOf r (s .token)))) (c .before .row-of .ensures)
+    ∙ ap (λ (n : ℕ). Done (amount n)) (sym (balance-row (s .l) (s .member) (s .token)))
+    ∙ sym (balance-done (s .l) (s .member) (s .token) (omega arith) (omega arith))
 
 pub balance-spec : {M : Type 1} → statement M
 balance-spec = tie.close (tie.spec returns returns-2 row-of-requires cell-of-requires returns-3)

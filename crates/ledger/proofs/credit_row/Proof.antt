@@ -1,13 +1,16 @@
 -- `ledger::credit_row` meets its contract.
+use mathlib.Core.Path.{sym}
+use native.Mathlib.Omega.{arith}
 use borrow.Author.Needs.{needs}
-use borrow.Author.Tests.{lt-ltb, le-ltb}
+use borrow.Author.Tests.{lt-ltb}
 use Rattle.ledger.specs.Balances.{cellOf, withCell, creditedRow}
 use Rattle.ledger.specs.Postings.{creditRowOf}
+use Rattle.ledger.proofs.Laws.{credit-row-done, credit-row-full}
 use Rattle.ledger.proofs.credit_row.Statement.{statement}
 use Rattle.ledger.proofs.credit_row.Tie as tie
 
 returns : tie.Need-returns
-unfolding creditRowOf creditedRow withCell cellOf
+unfolding creditRowOf
 returns c = rw (lt-ltb _ _ (c .if1 .taken))
 
 mul-cell : tie.Need-mul-cell
@@ -26,8 +29,10 @@ add-sum : tie.Need-add-sum
 add-sum c = search needs
 
 returns-2 : tie.Need-returns-2
-unfolding creditRowOf creditedRow withCell cellOf
-returns-2 c = rw (le-ltb _ _ (c .before .before .before .before .if1 .left), lt-ltb _ _ (c .if2 .taken))
+unfolding cellOf
+returns-2 c =
+    let s = c .before .before .before .before .before .args in
+    sym (credit-row-full (s .row) (s .token) (s .n .0) (omega arith) (omega arith))
 
 cast-t20 : tie.Need-cast-t20
 cast-t20 c = search needs
@@ -39,8 +44,10 @@ element-set-from-new : tie.Need-element-set-from-new
 element-set-from-new c = search needs
 
 returns-3 : tie.Need-returns-3
-unfolding creditRowOf creditedRow withCell cellOf
-returns-3 c = rw (le-ltb _ _ (c .before .before .before .before .if1 .left), le-ltb _ _ (c .if2 .left))
+unfolding creditedRow withCell cellOf
+returns-3 c =
+    let s = c .before .before .before .before .before .args in
+    sym (credit-row-done (s .row) (s .token) (s .n .0) (omega arith) (omega arith))
 
 pub credit-row-spec : {M : Type 1} → statement M
 credit-row-spec =

@@ -1,6 +1,10 @@
 -- `pricing::share_of` meets its contract.
 use borrow.Author.Needs.{needs}
+use mathlib.Core.Path.{ap₂}
+use Prim.Native.Nat.{ℕ}
 use native.Mathlib.Omega.{arith}
+use Rattle.units.specs.Counts.{amount}
+use Rattle.pricing.specs.declared.Share.{Share}
 use Rattle.pricing.specs.Prices.{sharePaid, shareGot, shareOf}
 use Rattle.pricing.proofs.Shares.{paid-le-paid, got-le-got}
 use Rattle.pricing.proofs.share_of.Statement.{statement}
@@ -24,9 +28,13 @@ cast-got c = let a = c .before .before .args in
     let pre = c .before .before .pre in
     omega (arith, c .part-down .ensures, got-le-got (a .offer .0) (a .side .got .0) (a .side .total .0) (pre .0) (pre .1))
 
+-- what is paid and what is got, as one share
+share : ℕ → ℕ → Share
+share paid got = record { paid = amount paid; got = amount got }
+
 returns : tie.Need-returns
-unfolding shareOf sharePaid shareGot
-returns c = rw (c .before .part-up .ensures, c .part-down .ensures)
+unfolding share shareOf sharePaid shareGot
+returns c = ap₂ share (c .before .part-up .ensures) (c .part-down .ensures)
 
 pub share-of-spec : {M : Type 1} → statement M
 share-of-spec = tie.close (tie.spec part-up-requires cast-paid part-down-requires cast-got returns)

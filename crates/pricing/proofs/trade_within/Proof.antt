@@ -1,12 +1,12 @@
 -- `pricing::trade_within` meets its contract.
 use borrow.Author.Needs.{needs}
 use native.Mathlib.Omega.{arith}
-use mathlib.Core.Path.{_≡_, ap, _∙_}
-use Prim.Native.Nat.{ℕ, _*_, min}
+use mathlib.Core.Path.{_≡_, ap, ap₂, _∙_}
+use Prim.Native.Nat.{ℕ, _*_, _≤_, min}
 use borrow.Author.Tests.{lt-ltb, le-ltb}
 use Rattle.units.specs.Counts.{million}
 use Rattle.units.specs.Rounding.{up}
-use Rattle.pricing.specs.Prices.{matchBase, matchQuote, tradeWithin}
+use Rattle.pricing.specs.Prices.{matchBase, matchQuote, trade, tradeWithin}
 use Rattle.pricing.proofs.Trades.{quote-le}
 use Rattle.pricing.proofs.trade_within.Statement.{statement}
 use Rattle.pricing.proofs.trade_within.Tie as tie
@@ -61,10 +61,16 @@ returns : tie.Need-returns
 unfolding tradeWithin
 returns c = rw (lt-ltb _ _ (rw (at-hi (c .before .before), priced (c .before)) at (c .if1 .taken)))
 
-returns-2 : tie.Need-returns-2
+-- a trade that keeps hi is not dropped
+kept : (q s r hi : ℕ) → matchQuote (matchBase q s r) r * million ≤ hi * matchBase q s r → trade (matchBase q s r) (matchQuote (matchBase q s r) r) ≡ tradeWithin q s r hi
 unfolding tradeWithin
+kept q s r hi h = rw (le-ltb _ _ h)
+
+returns-2 : tie.Need-returns-2
 returns-2 c =
-    rw (le-ltb _ _ (rw (at-hi (c .before .before), priced (c .before)) at (c .if1 .left)), base (c .before .before .before .before), quote (c .before .before .before))
+    let a = c .before .before .before .before .before .before .before .args in
+    ap₂ trade (base (c .before .before .before .before)) (quote (c .before .before .before))
+    ∙ kept (a .q .0) (a .s .0) (a .reference .0) (a .hi .0) (rw (at-hi (c .before .before), priced (c .before)) at (c .if1 .left))
 
 pub trade-within-spec : {M : Type 1} → statement M
 trade-within-spec =
