@@ -20,3 +20,4 @@ pub mod Reach
 pub mod ReachClock
 pub mod ReachBounds
 pub mod WindUp
+pub mod OnParts

@@ -8,6 +8,7 @@ pub mod History
 pub mod WholeRun
 pub mod Closing
 pub mod Bounds
+pub mod Parts
 pub mod Scripts
 pub mod Day
 pub mod Edges

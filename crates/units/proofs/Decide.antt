@@ -1,7 +1,7 @@
 -- The laws of a decision: it refuses for a test that applies, or no test applies and the outcome stands.
-use mathlib.Core.Path.{_≡_, refl}
+use mathlib.Core.Path.{_≡_, refl, sym, _∙_}
 use mathlib.Core.Bool.{Bool, true, false, cond, _||_}
-use mathlib.Core.List.{List, [], _∷_}
+use mathlib.Core.List.{List, [], _∷_, _++_}
 use native.Mathlib.Omega.{arith}
 use Prim.Native.Nat.{ℕ}
 use Rattle.units.specs.Decide.{Test, decide}
@@ -30,6 +30,35 @@ module _ {A B : Type 0} (refuse : A → B) (out : B) where
 
   pub decide-next : (t : Test A) (ts : List (Test A)) → t .applies ≡ false → decide (t ∷ ts) refuse out ≡ decide ts refuse out
   decide-next t ts e = rw e
+
+-- a decision over two lists, the first of which passes on to the second
+pub decide-split : {A B : Type 0} (refuse : A → B) (out mid : B) (ts us : List (Test A)) → (Passed ts → decide us refuse out ≡ mid) → decide (ts ++ us) refuse out ≡ decide ts refuse mid
+decide-split refuse out mid [] us h = h tt
+decide-split refuse out mid (t ∷ ts) us h = go (t .applies) refl (λ e. decide-split refuse out mid ts us (λ p. h (e, p)))
+  where
+    go : (q : Bool) → t .applies ≡ q → (t .applies ≡ false → decide (ts ++ us) refuse out ≡ decide ts refuse mid)
+        → cond (t .applies) (refuse (t .reason)) (decide (ts ++ us) refuse out) ≡ cond (t .applies) (refuse (t .reason)) (decide ts refuse mid)
+    go true e rec = rw e
+    go false e rec = rw e (rec e)
+
+-- a decision seen through a function
+pub decide-carried : {A B C : Type 0} (g : B → C) (f : A → B) (b : B) (h : A → C) (c : C) (ts : List (Test A)) → ((r : A) → g (f r) ≡ h r) → (Passed ts → g b ≡ c) → g (decide ts f b) ≡ decide ts h c
+decide-carried g f b h c [] back done = done tt
+decide-carried g f b h c (t ∷ ts) back done = go (t .applies) refl (λ e. decide-carried g f b h c ts back (λ p. done (e, p)))
+  where
+    go : (q : Bool) → t .applies ≡ q → (t .applies ≡ false → g (decide ts f b) ≡ decide ts h c)
+        → g (cond (t .applies) (f (t .reason)) (decide ts f b)) ≡ cond (t .applies) (h (t .reason)) (decide ts h c)
+    go true e rec = rw e (back (t .reason))
+    go false e rec = rw e (rec e)
+
+-- a decision for nothing was passed by all
+pub passed-all : {A B : Type 0} (f : A → B) (b : B) → ((r : A) → f r ≡ b → ⊥) → (ts : List (Test A)) → decide ts f b ≡ b → Passed ts
+passed-all f b apart [] e = tt
+passed-all f b apart (t ∷ ts) e = go (t .applies) refl (λ w. passed-all f b apart ts (sym (decide-next f b t ts w) ∙ e))
+  where
+    go : (q : Bool) → t .applies ≡ q → (t .applies ≡ false → Passed ts) → Passed (t ∷ ts)
+    go true w rec = absurd (apart (t .reason) (sym (decide-stops f b t ts w) ∙ e))
+    go false w rec = (w, rec w)
 
 -- neither of two tests
 pub or-false : (a b : Bool) → (a || b) ≡ false → (a ≡ false) × (b ≡ false)

@@ -1,0 +1,335 @@
+-- Each call is its form, then its work on the parts that it touches, with the parts put back.
+use Prim.Native.Nat.{ℕ, zero, suc, _+_, _-_, _≤_, _<_}
+use mathlib.Core.Path.{_≡_, refl, sym, ap, ap₂, subst, _∙_}
+use mathlib.Core.Bool.{Bool, true, false, cond, _||_, _&&_, not}
+use mathlib.Core.List.{List, [], _∷_, _++_}
+use native.Mathlib.Omega.{arith}
+use lib.Dec.{eqb}
+use lib.ListN.{getD, set, length}
+use lib.Seq.{set-getD, getD-set-other}
+use borrow.Author.Tests.{eqb-true, ltb-false, not-false}
+use Rattle.units.specs.declared.Amount.{Amount}
+use Rattle.units.specs.declared.Block.{Block}
+use Rattle.units.specs.Counts.{amount, block, largest}
+use Rattle.units.specs.Decide.{Test, when, decide}
+use Rattle.units.proofs.Decide.{Passed, decide-split, decide-carried, passed-all, or-false}
+use Rattle.ticket_set.specs.TicketSet.{countOf}
+use Rattle.pricing.specs.declared.Side.{Side}
+use Rattle.pricing.specs.Prices.{offLimit}
+use Rattle.ledger.specs.declared.Row.{Row}
+use Rattle.ledger.specs.declared.Ledger.{Ledger}
+use Rattle.ledger.specs.Balances.{cellOf, creditedRow, debitedRow, rowOf, withRow, balanceIn, credited, debited, Shaped}
+use Rattle.ledger.proofs.Laws.{balance-row, credited-row, debited-row, row-same, row-again, put-back}
+use Rattle.model.specs.declared.state.Order.{Order}
+use Rattle.model.specs.declared.state.Ticket.{Ticket}
+use Rattle.model.specs.declared.state.TicketState.{TicketState}
+use Rattle.model.specs.declared.state.TicketState.the-variants.{Free, Resting, Entered}
+use Rattle.model.specs.declared.state.Round.{Round}
+use Rattle.model.specs.declared.state.Phase.{Phase}
+use Rattle.model.specs.declared.state.Phase.the-variants.{Closed, Collect, Auction, Paying}
+use Rattle.model.specs.declared.state.Market.{Market}
+use Rattle.model.specs.declared.state.Exchange.{Exchange}
+use Rattle.model.specs.declared.answer.Answer.the-variants.{Accepted, Refused}
+use Rattle.model.specs.declared.answer.Outcome.{Outcome}
+use Rattle.model.specs.declared.answer.Refusal.{Refusal}
+use Rattle.model.specs.declared.answer.Refusal.the-variants.{TicketInUse, NoSuchOrder, WrongTicketState, WrongPhase, StaleBlock, TooEarly, SupplyExceeded, LimitOutOfBounds, AuctionOver, NotAvailable, BoundMissed, InsufficientBalance}
+use Rattle.model.specs.declared.parts.Form.{Form}
+use Rattle.model.specs.declared.parts.Form.the-variants.{Good, Bad}
+use Rattle.model.specs.declared.parts.Banked.{Banked}
+use Rattle.model.specs.declared.parts.Placed.{Placed}
+use Rattle.model.specs.declared.parts.Moved.{Moved}
+use Rattle.model.specs.declared.parts.Joined.{Joined}
+use Rattle.model.specs.declared.parts.Traded.{Traded}
+use Rattle.model.specs.declared.parts.Claimed.{Claimed}
+use Rattle.model.specs.Sides.{sideOf, offered, wanted, gives, takes}
+use Rattle.model.specs.State.{balance, supply, lastBlock, ticket, freeTicket, orderIn, isFree, isEntered, restingOr, phase, roundIn, isClosed, isCollect, isAuction, isPaying, totalsOf, marketAt, setMarket, withTicket, withPhase, credit, toResidue}
+use Rattle.model.specs.Calls.{accept, refuse, above, below, unfilled, notAvailable, boundMissed, bidQuote, bidRound, depositOf, depositDone, withdrawOf, withdrawDone, orderOf, orderDone, cancelOf, cancelDone, openOf, openDone, enterOf, enterWith, enterDone, matchOf, matchDone, bidOf, bidDone, settleOf, settleDone, claimedRound, payingOrClosed, claimOf, claimWith, claimDone}
+use Rattle.model.specs.Bounds.{Bounded, TicketBounds, shareIn, gotIn}
+use Rattle.model.specs.Parts.{bankForm, orderForm, cancelForm, openForm, ticketForm, marketForm, bidForm, formOf, byForm, marketIn, memberIn, supplyAt, residueAt, ticketAt, unbanked, depositedOn, depositOn, withdrawnOn, withdrawOn, putBanked, unplaced, orderFrom, orderedOn, orderOn, cancelledOn, cancelOn, putPlaced, unmoved, openedOn, openOn, matchedOn, matchOn, settledOn, settleOn, putMoved, unjoined, enteredOn, enterOn, putJoined, untraded, tradedOn, bidOn, putTraded, unclaimed, paidOn, claimOn, putClaimed}
+
+-- ---- forms
+
+-- a call that looks at its form first
+on-form : (x : Exchange) (ts us : List (Test Refusal)) (out mid : Outcome) → (Passed ts → decide us (refuse x) out ≡ mid)
+    → decide (ts ++ us) (refuse x) out ≡ byForm (formOf ts) (refuse x) mid
+unfolding formOf
+on-form x ts us out mid h =
+    decide-split (refuse x) out mid ts us h
+    ∙ sym (decide-carried (λ (f : Form). byForm f (refuse x) mid) Bad Good (refuse x) mid ts (λ r. refl) (λ p. refl))
+
+-- a good form passed every test
+pub form-good : (ts : List (Test Refusal)) → formOf ts ≡ Good → Passed ts
+unfolding formOf
+form-good ts e = passed-all Bad Good (λ r q. absurd (let z : _≡_ {A = ℕ} 0 1 = cc in omega arith)) ts e
+
+-- ---- parts put back as they were
+
+market-back : (ms : List Market) (n : ℕ) → setMarket ms n (marketAt ms n) ≡ ms
+market-back ms zero = refl
+market-back ms (suc i) = set-getD ms i (record { phase = Closed })
+
+back : (x : Exchange) (l : Ledger) (supply residue : List Amount) (tickets : List Ticket) (markets : List Market) (w : Refusal)
+    → l ≡ x .ledger → supply ≡ x .supply → residue ≡ x .residue → tickets ≡ x .tickets → markets ≡ x .markets
+    → _≡_ {A = Outcome} (record { answer = Refused w; exchange = record { ledger = l; supply = supply; residue = residue; tickets = tickets; markets = markets; last = x .last } }) (refuse x w)
+back x l s r t m w el es er et em = rw (el, es, er, et, em)
+
+-- ---- 1, 2
+
+module _ (x : Exchange) (m t : ℕ) where
+  bank-back : (w : Refusal) → putBanked x m t (unbanked (rowOf (x .ledger) m) (supplyAt x t) w) ≡ refuse x w
+  bank-back w = back x _ _ (x .residue) (x .tickets) (x .markets) w (put-back (x .ledger) m) (set-getD (x .supply) t (amount 0)) refl refl refl
+
+  pub deposit-on : (n : ℕ) → depositOf x m t n ≡ byForm (formOf (bankForm m t n)) (refuse x) (putBanked x m t (depositOn (rowOf (x .ledger) m) (supplyAt x t) t n))
+  unfolding depositOf depositOn
+  deposit-on n =
+      let row : Row = rowOf (x .ledger) m in
+      let us : List (Test Refusal) = when (above (supply x t + n) largest) SupplyExceeded ∷ [] in
+      on-form x (bankForm m t n) us (depositDone x m t n) _ (λ f.
+        sym (decide-carried (putBanked x m t) (unbanked row (supplyAt x t)) (depositedOn row (supplyAt x t) t n) (refuse x) (depositDone x m t n) us bank-back
+        (λ p. rw (balance-row (x .ledger) m t, credited-row (x .ledger) m t n))))
+
+  pub withdraw-on : (n : ℕ) → withdrawOf x m t n ≡ byForm (formOf (bankForm m t n)) (refuse x) (putBanked x m t (withdrawOn (rowOf (x .ledger) m) (supplyAt x t) t n))
+  unfolding withdrawOf withdrawOn
+  withdraw-on n =
+      let row : Row = rowOf (x .ledger) m in
+      let us : List (Test Refusal) = when (below (cellOf row t) n) InsufficientBalance ∷ [] in
+      rw (balance-row (x .ledger) m t)
+      (on-form x (bankForm m t n) us _ _ (λ f.
+        sym (decide-carried (putBanked x m t) (unbanked row (supplyAt x t)) (withdrawnOn row (supplyAt x t) t n) (refuse x) _ us bank-back
+        (λ p. rw (debited-row (x .ledger) m t n)))))
+
+-- ---- 3, 4
+
+module _ (x : Exchange) (m k : ℕ) where
+  place-back : (w : Refusal) → putPlaced x m k (unplaced (rowOf (x .ledger) m) (ticketAt x k) w) ≡ refuse x w
+  place-back w = back x _ (x .supply) (x .residue) _ (x .markets) w (put-back (x .ledger) m) refl refl (set-getD (x .tickets) k freeTicket) refl
+
+  pub order-on : (market side limit n : ℕ)
+      → orderOf x k m market side limit n
+      ≡ byForm (formOf (orderForm k m market side limit n)) (refuse x) (putPlaced x m k (orderOn (rowOf (x .ledger) m) (ticketAt x k) (orderFrom m market side limit n)))
+  unfolding orderOf orderOn
+  order-on market side limit n =
+      let row : Row = rowOf (x .ledger) m in
+      let token : ℕ = offered (sideOf side) market in
+      let us : List (Test Refusal) = when (not (isFree (ticket x k))) TicketInUse ∷ when (below (cellOf row token) n) InsufficientBalance ∷ [] in
+      rw (balance-row (x .ledger) m token)
+      (on-form x (orderForm k m market side limit n) us (orderDone x k m market side limit n) _ (λ f.
+        sym (decide-carried (putPlaced x m k) (unplaced row (ticketAt x k)) (orderedOn row (orderFrom m market side limit n)) (refuse x) (orderDone x k m market side limit n) us place-back
+        (λ p. rw (debited-row (x .ledger) m token n)))))
+
+  pub cancel-on : cancelOf x k m ≡ byForm (formOf (cancelForm k m)) (refuse x) (putPlaced x m k (cancelOn (rowOf (x .ledger) m) (ticketAt x k) m))
+  unfolding cancelOf cancelOn
+  cancel-on =
+      let row : Row = rowOf (x .ledger) m in
+      let o : Order = orderIn (ticket x k) in
+      let us : List (Test Refusal) = when (isFree (ticket x k) || not (eqb (o .member) m)) NoSuchOrder ∷ when (isEntered (ticket x k)) WrongTicketState ∷ [] in
+      on-form x (cancelForm k m) us (cancelDone x k) _ (λ f.
+        sym (decide-carried (putPlaced x m k) (unplaced row (ticketAt x k)) (cancelledOn row o) (refuse x) (cancelDone x k) us place-back (λ p.
+          let own : o .member ≡ m = eqb-true (o .member) m (not-false _ (or-false (isFree (ticket x k)) (not (eqb (o .member) m)) (p .0) .1)) in
+          sym (ap (λ (l : Ledger). putLedger x k l (o .offer .0)) (ap (λ (j : ℕ). credited (x .ledger) j (offered (o .side) (o .market)) (o .offer .0)) own ∙ credited-row (x .ledger) m (offered (o .side) (o .market)) (o .offer .0))))))
+    where
+      putLedger : Exchange → ℕ → Ledger → ℕ → Outcome
+      putLedger x k l n =
+          record {
+            answer = Accepted n 0;
+            exchange = record { ledger = l; supply = x .supply; residue = x .residue; tickets = set (x .tickets) k freeTicket; markets = x .markets; last = x .last };
+          }
+
+-- ---- 5, 7, 9
+
+module _ (x : Exchange) (n at : ℕ) where
+  move-back : (w : Refusal) → putMoved x n (unmoved (marketAt (x .markets) n) (x .last) w) ≡ refuse x w
+  move-back w = back x (x .ledger) (x .supply) (x .residue) (x .tickets) _ w refl refl refl refl (market-back (x .markets) n)
+
+  pub open-on : (r w len : ℕ)
+      → openOf x n at r w len ≡ byForm (formOf (openForm n r w len)) (refuse x) (putMoved x n (openOn (marketAt (x .markets) n) (x .last) at r w len))
+  unfolding openOf openOn
+  open-on r w len =
+      let us : List (Test Refusal) = when (not (isClosed (phase x n))) WrongPhase ∷ when (below at (lastBlock x)) StaleBlock ∷ [] in
+      on-form x (openForm n r w len) us (openDone x n at r w len) _ (λ f.
+        sym (decide-carried (putMoved x n) (unmoved (marketAt (x .markets) n) (x .last)) (openedOn at r w len) (refuse x) (openDone x n at r w len) us move-back (λ p. refl)))
+
+  pub match-on : matchOf x n at ≡ byForm (formOf (marketForm n)) (refuse x) (putMoved x n (matchOn (marketAt (x .markets) n) (x .last) at))
+  unfolding matchOf matchOn
+  match-on =
+      let r : Round = roundIn (phase x n) in
+      let us : List (Test Refusal) = when (not (isCollect (phase x n))) WrongPhase ∷ when (below at (lastBlock x)) StaleBlock ∷ when (below at (r .opened .0 + 4)) TooEarly ∷ [] in
+      on-form x (marketForm n) us (matchDone x n at) _ (λ f.
+        sym (decide-carried (putMoved x n) (unmoved (marketAt (x .markets) n) (x .last)) (matchedOn r at) (refuse x) (matchDone x n at) us move-back (λ p. refl)))
+
+  pub settle-on : settleOf x n at ≡ byForm (formOf (marketForm n)) (refuse x) (putMoved x n (settleOn (marketAt (x .markets) n) (x .last) at))
+  unfolding settleOf settleOn
+  settle-on =
+      let r : Round = roundIn (phase x n) in
+      let us : List (Test Refusal) =
+      when (not (isAuction (phase x n))) WrongPhase
+      ∷ when (below at (lastBlock x)) StaleBlock
+      ∷ when ((unfilled (r .buys) || unfilled (r .sells)) && not (above at (r .start .0 + r .length))) TooEarly
+      ∷ [] in
+      on-form x (marketForm n) us (settleDone x n at) _ (λ f.
+        sym (decide-carried (putMoved x n) (unmoved (marketAt (x .markets) n) (x .last)) (settledOn r at) (refuse x) (settleDone x n at) us move-back (λ p. refl)))
+
+-- ---- 6
+
+module _ (x : Exchange) (k : ℕ) (s : TicketState) (e : ticketAt x k ≡ record { state = s }) where
+  join-back : (n : ℕ) (w : Refusal) → putJoined x k n (unjoined (record { state = s }) (marketAt (x .markets) n) w) ≡ refuse x w
+  join-back n w =
+      ap (λ (t : Ticket). putJoined x k n (unjoined t (marketAt (x .markets) n) w)) (sym e)
+      ∙ back x (x .ledger) (x .supply) (x .residue) _ _ w refl refl refl (set-getD (x .tickets) k freeTicket) (market-back (x .markets) n)
+
+-- what enter tests of a ticket and its market
+enterRest : TicketState → Phase → List (Test Refusal)
+enterRest s p =
+    let o = orderIn s in
+    let r = roundIn p in
+    when (isFree s) NoSuchOrder
+    ∷ when (isEntered s) WrongTicketState
+    ∷ when (not (isCollect p)) WrongPhase
+    ∷ when (offLimit (o .side) (o .limit .0) (r .hi .0) (r .lo .0)) LimitOutOfBounds
+    ∷ []
+
+enter-ticket : (x : Exchange) (k : ℕ) (s : TicketState) → ticketAt x k ≡ record { state = s }
+    → decide (enterRest s (phase x (orderIn s .market))) (refuse x) (enterWith x k (orderIn s) (roundIn (phase x (orderIn s .market))))
+    ≡ putJoined x k (marketIn s) (enterOn (record { state = s }) (marketAt (x .markets) (marketIn s)) k)
+unfolding enterRest enterOn
+enter-ticket x k Free e = sym (join-back x k Free e 1 NoSuchOrder)
+enter-ticket x k (Resting o) e =
+    let m : Market = marketAt (x .markets) (o .market) in
+    let s : TicketState = Resting o in
+    sym (decide-carried (putJoined x k (o .market)) (unjoined (record { state = s }) m) (enteredOn o (roundIn (m .phase)) k) (refuse x) (enterWith x k o (roundIn (m .phase)))
+    (enterRest s (m .phase)) (join-back x k s e (o .market)) (λ p. refl))
+enter-ticket x k (Entered o) e = sym (join-back x k (Entered o) e (o .market) WrongTicketState)
+
+pub enter-on : (x : Exchange) (k : ℕ)
+    → enterOf x k ≡ byForm (formOf (ticketForm k)) (refuse x) (putJoined x k (marketIn (ticket x k)) (enterOn (ticketAt x k) (marketAt (x .markets) (marketIn (ticket x k))) k))
+unfolding enterOf enterRest
+enter-on x k = on-form x (ticketForm k) (enterRest (ticket x k) (phase x (orderIn (ticket x k) .market))) (enterDone x k) _ (λ f. enter-ticket x k (ticket x k) refl)
+
+-- ---- 8
+
+module _ (x : Exchange) (n m at : ℕ) (z : Shaped (x .ledger)) where
+  trade-back : (w : Refusal) → putTraded x n m (untraded (marketAt (x .markets) n) (rowOf (x .ledger) m) (x .last) w) ≡ refuse x w
+  trade-back w = back x _ (x .supply) (x .residue) (x .tickets) _ w (put-back (x .ledger) m) refl refl refl (market-back (x .markets) n)
+
+  -- two changes of one row
+  row-twice : m < 16 → (t u a b : ℕ) → credited (debited (x .ledger) m t a) m u b ≡ withRow (x .ledger) m (creditedRow (debitedRow (rowOf (x .ledger) m) t a) u b)
+  row-twice h t u a b =
+      rw (debited-row (x .ledger) m t a, credited-row (withRow (x .ledger) m (debitedRow (rowOf (x .ledger) m) t a)) m u b, row-same (x .ledger) m (debitedRow (rowOf (x .ledger) m) t a) z h, row-again (x .ledger) m (debitedRow (rowOf (x .ledger) m) t a) (creditedRow (debitedRow (rowOf (x .ledger) m) t a) u b))
+
+  pub bid-on : (side base bound : ℕ)
+      → bidOf x n m at side base bound
+      ≡ byForm (formOf (bidForm n m side base)) (refuse x) (putTraded x n m (bidOn (marketAt (x .markets) n) (rowOf (x .ledger) m) (x .last) n at (sideOf side) base bound))
+  unfolding bidOf bidOn
+  bid-on side base bound =
+      let row : Row = rowOf (x .ledger) m in
+      let s : Side = sideOf side in
+      let r : Round = roundIn (phase x n) in
+      let q : ℕ = bidQuote r s at base in
+      let us : List (Test Refusal) =
+      when (not (isAuction (phase x n))) WrongPhase
+      ∷ when (below at (lastBlock x)) StaleBlock
+      ∷ when (above at (r .start .0 + r .length)) AuctionOver
+      ∷ when (notAvailable s base q (totalsOf r s)) NotAvailable
+      ∷ when (boundMissed s q bound) BoundMissed
+      ∷ when (below (cellOf row (wanted s n)) (gives s base q)) InsufficientBalance
+      ∷ [] in
+      rw (balance-row (x .ledger) m (wanted s n))
+      (on-form x (bidForm n m side base) us (bidDone x n m at side base) _ (λ f.
+        sym (decide-carried (putTraded x n m) (untraded (marketAt (x .markets) n) row (x .last)) (tradedOn r row n at s base q) (refuse x) (bidDone x n m at side base) us trade-back
+        (λ p. sym (ap (traded x n at r s base q) (row-twice (omega (arith, ltb-false 15 m (f .0))) (wanted s n) (offered s n) (gives s base q) (takes s base q)))))))
+    where
+      traded : Exchange → ℕ → ℕ → Round → Side → ℕ → ℕ → Ledger → Outcome
+      traded x n at r s base q l =
+          record {
+            answer = Accepted base q;
+            exchange = record { ledger = l; supply = x .supply; residue = x .residue; tickets = x .tickets; markets = setMarket (x .markets) n (record { phase = Auction (bidRound r s base q) }); last = block at };
+          }
+
+-- ---- 10
+
+module _ (x : Exchange) (k : ℕ) (s : TicketState) (e : ticketAt x k ≡ record { state = s }) where
+  residue-back : (n : ℕ) → set (set (x .residue) 0 (residueAt x 0)) n (residueAt x n) ≡ x .residue
+  residue-back n =
+      ap (λ (l : List Amount). set l n (residueAt x n)) (set-getD (x .residue) 0 (amount 0)) ∙ set-getD (x .residue) n (amount 0)
+
+  claim-back : (n m : ℕ) (w : Refusal)
+      → putClaimed x k n m (unclaimed (record { state = s }) (marketAt (x .markets) n) (rowOf (x .ledger) m) (residueAt x 0) (residueAt x n) w) ≡ refuse x w
+  claim-back n m w =
+      ap (λ (t : Ticket). putClaimed x k n m (unclaimed t (marketAt (x .markets) n) (rowOf (x .ledger) m) (residueAt x 0) (residueAt x n) w)) (sym e)
+      ∙ back x _ (x .supply) _ _ _ w (put-back (x .ledger) m) refl (residue-back n) (set-getD (x .tickets) k freeTicket) (market-back (x .markets) n)
+
+-- the state after a claim, by its ledger, residue and phase
+claimed : Exchange → ℕ → Order → ℕ → ℕ → Ledger → List Amount → Phase → Outcome
+claimed x k o s got l residue p =
+    record {
+      answer = Accepted s got;
+      exchange =
+          record {
+            ledger = l;
+            supply = x .supply;
+            residue = residue;
+            tickets = set (x .tickets) k (record { state = restingOr o (o .offer .0 - s) });
+            markets = setMarket (x .markets) (o .market) (record { phase = p });
+            last = x .last;
+          };
+    }
+
+module _ (x : Exchange) (k : ℕ) (o : Order) (pos : 0 < o .market) (s got : ℕ) (r : Round) where
+  -- a last claim sweeps into two cells of the residue
+  swept : (q b : ℕ) → set (set (x .residue) 0 (amount (residueAt x 0 .0 + q))) (o .market) (amount (getD (set (x .residue) 0 (amount (residueAt x 0 .0 + q))) (o .market) (amount 0) .0 + b))
+      ≡ set (set (x .residue) 0 (amount (residueAt x 0 .0 + q))) (o .market) (amount (residueAt x (o .market) .0 + b))
+  swept q b =
+      ap (λ (c : Amount). set (set (x .residue) 0 (amount (residueAt x 0 .0 + q))) (o .market) (amount (c .0 + b)))
+      (getD-set-other (x .residue) 0 (o .market) (amount (residueAt x 0 .0 + q)) (amount 0) (λ z. omega (arith, pos, z)))
+
+  paid-parts : accept s got (payingOrClosed (credit (withTicket x k (restingOr o (o .offer .0 - s))) (o .member) (wanted (o .side) (o .market)) got) (o .market) r)
+      ≡ putClaimed x k (o .market) (o .member) (paidOn (rowOf (x .ledger) (o .member)) (residueAt x 0) (residueAt x (o .market)) o s got r)
+  unfolding claimed
+  paid-parts = go (eqb (countOf (r .tickets)) 0)
+    where
+      row : credited (x .ledger) (o .member) (wanted (o .side) (o .market)) got
+          ≡ withRow (x .ledger) (o .member) (creditedRow (rowOf (x .ledger) (o .member)) (wanted (o .side) (o .market)) got)
+      row = credited-row (x .ledger) (o .member) (wanted (o .side) (o .market)) got
+
+      go : (q : Bool)
+          → accept s got (cond q (withPhase (toResidue (toResidue (credit (withTicket x k (restingOr o (o .offer .0 - s))) (o .member) (wanted (o .side) (o .market)) got) 0 (r .quote .0)) (o .market) (r .base .0)) (o .market) Closed) (withPhase (credit (withTicket x k (restingOr o (o .offer .0 - s))) (o .member) (wanted (o .side) (o .market)) got) (o .market) (Paying r)))
+          ≡ claimed x k o s got (withRow (x .ledger) (o .member) (creditedRow (rowOf (x .ledger) (o .member)) (wanted (o .side) (o .market)) got))
+          (set (set (x .residue) 0 (cond q (amount (residueAt x 0 .0 + r .quote .0)) (residueAt x 0))) (o .market) (cond q (amount (residueAt x (o .market) .0 + r .base .0)) (residueAt x (o .market))))
+          (cond q Closed (Paying r))
+      go true = ap₂ (λ (l : Ledger) (c : List Amount). claimed x k o s got l c Closed) row (swept (r .quote .0) (r .base .0))
+      go false = ap₂ (λ (l : Ledger) (c : List Amount). claimed x k o s got l c (Paying r)) row (sym (residue-back x k (ticket x k) refl (o .market)))
+
+-- what claim tests of a ticket and its market
+claimRest : TicketState → Phase → List (Test Refusal)
+claimRest s p =
+    when (isFree s) NoSuchOrder
+    ∷ when (not (isEntered s)) WrongTicketState
+    ∷ when (not (isPaying p)) WrongPhase
+    ∷ []
+
+claim-ticket : (x : Exchange) (k : ℕ) (s : TicketState) → ticketAt x k ≡ record { state = s } → TicketBounds s
+    → decide (claimRest s (phase x (orderIn s .market))) (refuse x) (claimWith x k (orderIn s) (roundIn (phase x (orderIn s .market))))
+    ≡ putClaimed x k (marketIn s) (memberIn s)
+    (claimOn (record { state = s }) (marketAt (x .markets) (marketIn s)) (rowOf (x .ledger) (memberIn s)) (residueAt x 0) (residueAt x (marketIn s)) k)
+unfolding claimRest claimOn
+claim-ticket x k Free e b = sym (claim-back x k Free e 1 0 NoSuchOrder)
+claim-ticket x k (Resting o) e b = sym (claim-back x k (Resting o) e (o .market) (o .member) WrongTicketState)
+claim-ticket x k (Entered o) e b =
+    let m : Market = marketAt (x .markets) (o .market) in
+    let r : Round = roundIn (m .phase) in
+    let s : TicketState = Entered o in
+    let row : Row = rowOf (x .ledger) (o .member) in
+    let next : Round = claimedRound r k (o .side) (o .offer .0 - shareIn r o) (gotIn r o) in
+    sym (decide-carried (putClaimed x k (o .market) (o .member)) (unclaimed (record { state = s }) m row (residueAt x 0) (residueAt x (o .market)))
+    (paidOn row (residueAt x 0) (residueAt x (o .market)) o (shareIn r o) (gotIn r o) next) (refuse x) (claimWith x k o r)
+    (claimRest s (m .phase)) (claim-back x k s e (o .market) (o .member)) (λ p. sym (paid-parts x k o (b .market-low) (shareIn r o) (gotIn r o) next)))
+
+pub claim-on : (x : Exchange) → Bounded x → (k : ℕ)
+    → claimOf x k
+    ≡ byForm (formOf (ticketForm k)) (refuse x)
+    (putClaimed x k (marketIn (ticket x k)) (memberIn (ticket x k))
+    (claimOn (ticketAt x k) (marketAt (x .markets) (marketIn (ticket x k))) (rowOf (x .ledger) (memberIn (ticket x k))) (residueAt x 0) (residueAt x (marketIn (ticket x k))) k))
+unfolding claimOf claimRest
+claim-on x b k =
+    on-form x (ticketForm k) (claimRest (ticket x k) (phase x (orderIn (ticket x k) .market))) (claimDone x k) _ (λ f.
+      claim-ticket x k (ticket x k) refl (b .ticket-bounds k (omega (arith, ltb-false 63 k (f .0)))))
