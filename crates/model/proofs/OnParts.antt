@@ -42,7 +42,7 @@ use Rattle.model.specs.declared.parts.Joined.{Joined}
 use Rattle.model.specs.declared.parts.Traded.{Traded}
 use Rattle.model.specs.declared.parts.Claimed.{Claimed}
 use Rattle.model.specs.Sides.{sideOf, offered, wanted, gives, takes}
-use Rattle.model.specs.State.{balance, supply, lastBlock, ticket, freeTicket, orderIn, isFree, isEntered, restingOr, phase, roundIn, isClosed, isCollect, isAuction, isPaying, totalsOf, marketAt, setMarket, withTicket, withPhase, credit, toResidue}
+use Rattle.model.specs.State.{balance, supply, lastBlock, ticket, freeTicket, orderIn, isFree, isEntered, restingOr, phase, closedMarket, roundIn, isClosed, isCollect, isAuction, isPaying, totalsOf, marketAt, setMarket, withTicket, withPhase, credit, toResidue}
 use Rattle.model.specs.Calls.{accept, refuse, above, below, unfilled, notAvailable, boundMissed, bidQuote, bidRound, depositOf, depositDone, withdrawOf, withdrawDone, orderOf, orderDone, cancelOf, cancelDone, openOf, openDone, enterOf, enterWith, enterDone, matchOf, matchDone, bidOf, bidDone, settleOf, settleDone, claimedRound, payingOrClosed, claimOf, claimWith, claimDone}
 use Rattle.model.specs.Bounds.{Bounded, TicketBounds, shareIn, gotIn}
 use Rattle.model.specs.Parts.{bankForm, orderForm, cancelForm, openForm, ticketForm, marketForm, bidForm, formOf, byForm, marketIn, memberIn, supplyAt, residueAt, ticketAt, unbanked, depositedOn, depositOn, withdrawnOn, withdrawOn, putBanked, unplaced, orderFrom, orderedOn, orderOn, cancelledOn, cancelOn, putPlaced, unmoved, openedOn, openOn, matchedOn, matchOn, settledOn, settleOn, putMoved, unjoined, enteredOn, enterOn, putJoined, untraded, tradedOn, bidOn, putTraded, unclaimed, paidOn, claimOn, putClaimed}
@@ -64,9 +64,21 @@ form-good ts e = passed-all Bad Good (λ r q. absurd (let z : _≡_ {A = ℕ} 0 
 
 -- ---- parts put back as they were
 
+pred : (i : ℕ) → suc i - 1 ≡ i
+pred i = omega arith
+
+-- market n stands at place n - 1
+pub market-place : (ms : List Market) (n : ℕ) → 0 < n → getD ms (n - 1) closedMarket ≡ marketAt ms n
+market-place ms zero h = absurd (omega arith)
+market-place ms (suc i) h = ap (λ (j : ℕ). getD ms j closedMarket) (pred i)
+
+pub set-market-place : (ms : List Market) (n : ℕ) (m : Market) → 0 < n → set ms (n - 1) m ≡ setMarket ms n m
+set-market-place ms zero m h = absurd (omega arith)
+set-market-place ms (suc i) m h = ap (λ (j : ℕ). set ms j m) (pred i)
+
 market-back : (ms : List Market) (n : ℕ) → setMarket ms n (marketAt ms n) ≡ ms
 market-back ms zero = refl
-market-back ms (suc i) = set-getD ms i (record { phase = Closed })
+market-back ms (suc i) = set-getD ms i closedMarket
 
 back : (x : Exchange) (l : Ledger) (supply residue : List Amount) (tickets : List Ticket) (markets : List Market) (w : Refusal)
     → l ≡ x .ledger → supply ≡ x .supply → residue ≡ x .residue → tickets ≡ x .tickets → markets ≡ x .markets

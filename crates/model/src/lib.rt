@@ -2,5 +2,4 @@
 pub mod answer;
 pub mod call;
 pub mod parts;
-pub mod sides;
 pub mod state;

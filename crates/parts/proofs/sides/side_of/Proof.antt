@@ -2,9 +2,9 @@ use Prim.Native.Nat.{ℕ, zero, suc}
 use mathlib.Core.Path.{_≡_, refl}
 use borrow.Author.Needs.{needs}
 use Rattle.pricing.specs.declared.Side.the-variants.{Sell}
 use Rattle.model.specs.Sides.{sideOf}
-use Rattle.model.proofs.sides.side_of.Statement.{statement}
-use Rattle.model.proofs.sides.side_of.Tie as tie
+use Rattle.parts.proofs.sides.side_of.Statement.{statement}
+use Rattle.parts.proofs.sides.side_of.Tie as tie
 
 -- any number but 0
 sell-of : (n : ℕ) → (n ≡ 0 → ⊥) → Sell ≡ sideOf n
