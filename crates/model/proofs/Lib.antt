@@ -21,3 +21,4 @@ pub mod ReachClock
 pub mod ReachBounds
 pub mod WindUp
 pub mod OnParts
+pub mod PartBounds
