@@ -1,0 +1,3 @@
+// Deposit, withdraw, order and cancel.
+pub mod calls;
+pub mod work;

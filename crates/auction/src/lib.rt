@@ -1,0 +1,3 @@
+// Bid and settle.
+pub mod calls;
+pub mod work;

@@ -1,0 +1,3 @@
+// Open, enter and match.
+pub mod calls;
+pub mod work;

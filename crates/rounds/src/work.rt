@@ -1,0 +1,150 @@
+// Open, enter and match on the parts that they touch. Public for the crates above; what they ask of their parts holds of the parts of every
+// reachable state.
+ghost use mathlib.Core.Path.{_≡_};
+ghost use Prim.Native.Nat.{_<_, _≤_, _+_};
+ghost use Rattle.units.specs.Counts.{largest};
+ghost use Rattle.model.specs.State.{isClosed, totalsOf};
+ghost use Rattle.model.specs.Calls.{plusTotal, enteredRound};
+ghost use Rattle.model.specs.Bounds.{EnterBounds, MatchBounds, heldIn};
+ghost use Rattle.model.specs.Parts.{unmoved, openOn, matchOn, unjoined, enterOn};
+ghost use Rattle.model.specs.declared.state.Phase.the-variants.{Collect};
+use model::answer::Answer;
+use model::answer::Refusal;
+use model::parts::Joined;
+use model::parts::Moved;
+use model::state::Market;
+use model::state::Order;
+use model::state::Phase;
+use model::state::Round;
+use model::state::Ticket;
+use model::state::TicketState;
+use pricing::Side;
+use pricing::Totals;
+use pricing::high_bound;
+use pricing::low_bound;
+use pricing::trade_within;
+use ticket_set::insert;
+use units::Amount;
+use units::Block;
+use units::Price;
+
+fn unmoved_market(market: Market, last: Block, why: Refusal) -> Moved
+    ensures { λ r. ⌜ r ≡ unmoved market last why ⌝ }
+{
+    Moved {
+        answer: Answer::Refused(why),
+        market,
+        last,
+    }
+}
+
+fn is_closed(market: Market) -> bool
+    ensures { λ r. ⌜ r ≡ isClosed (market .phase) ⌝ }
+{
+    let phase = market.phase;
+    match phase {
+        Phase::Closed => true,
+        Phase::Collect(_) => false,
+        Phase::Auction(_) => false,
+        Phase::Paying(_) => false,
+    }
+}
+
+// Open: a round with its terms, and nothing entered.
+pub fn open(market: Market, last: Block, block: u32, reference: u32, slack: u32, length: u32) -> Moved
+    requires { ⌜ (reference ≤ 1000000000) × (slack ≤ 500000) ⌝ }
+    ensures { λ r. ⌜ r ≡ openOn market last block reference slack length ⌝ }
+{
+    if !is_closed(market) {
+        return unmoved_market(market, last, Refusal::WrongPhase);
+    }
+    if block < last.0 {
+        return unmoved_market(market, last, Refusal::StaleBlock);
+    }
+    let hi = high_bound(Price(reference), slack);
+    let lo = low_bound(Price(reference), slack);
+    let none = Totals {
+        total: Amount(0),
+        paid: Amount(0),
+        got: Amount(0),
+    };
+    let round = Round {
+        reference: Price(reference),
+        hi,
+        lo,
+        length,
+        opened: Block(block),
+        start: Block(0),
+        tickets: 0,
+        buys: none,
+        sells: none,
+        quote: Amount(0),
+        base: Amount(0),
+    };
+    Moved {
+        answer: Answer::Accepted(hi.0, lo.0),
+        market: Market {
+            phase: Phase::Collect(round),
+        },
+        last: Block(block),
+    }
+}
+
+// Match of a round that collects: what its two sides trade with each other, and the auction's start.
+fn match_collected(market: Market, last: Block, block: u32, r: Round) -> Moved
+    requires { ⌜ (market .phase ≡ Collect r) × (0 < r .reference .0) ⌝ }
+    ensures { λ o. ⌜ o ≡ matchOn market last block ⌝ }
+{
+    if block < last.0 {
+        return unmoved_market(market, last, Refusal::StaleBlock);
+    }
+    let opened = r.opened;
+    if (block as u64) < (opened.0 as u64) + 4 {
+        return unmoved_market(market, last, Refusal::TooEarly);
+    }
+    let buys = r.buys;
+    let sells = r.sells;
+    let q = buys.total;
+    let s = sells.total;
+    let reference = r.reference;
+    let hi = r.hi;
+    let t = trade_within(q, s, reference, hi);
+    let base = t.base;
+    let quote = t.quote;
+    let start = Block(block);
+    let bought = Totals {
+        total: q,
+        paid: quote,
+        got: base,
+    };
+    let sold = Totals {
+        total: s,
+        paid: base,
+        got: quote,
+    };
+    let mut next = r;
+    next.start = start;
+    next.buys = bought;
+    next.sells = sold;
+    Moved {
+        answer: Answer::Accepted(base.0, quote.0),
+        market: Market {
+            phase: Phase::Auction(next),
+        },
+        last: start,
+    }
+}
+
+// Match.
+pub fn match_round(market: Market, last: Block, block: u32) -> Moved
+    requires { ⌜ MatchBounds market ⌝ }
+    ensures { λ r. ⌜ r ≡ matchOn market last block ⌝ }
+{
+    let phase = market.phase;
+    match phase {
+        Phase::Closed => unmoved_market(market, last, Refusal::WrongPhase),
+        Phase::Collect(r) => match_collected(market, last, block, r),
+        Phase::Auction(_) => unmoved_market(market, last, Refusal::WrongPhase),
+        Phase::Paying(_) => unmoved_market(market, last, Refusal::WrongPhase),
+    }
+}
