@@ -43,9 +43,11 @@ use Rattle.model.specs.declared.parts.Traded.{Traded}
 use Rattle.model.specs.declared.parts.Claimed.{Claimed}
 use Rattle.model.specs.Sides.{sideOf, offered, wanted, gives, takes}
 use Rattle.model.specs.State.{balance, supply, lastBlock, ticket, freeTicket, orderIn, isFree, isEntered, restingOr, phase, closedMarket, roundIn, isClosed, isCollect, isAuction, isPaying, totalsOf, marketAt, setMarket, withTicket, withPhase, credit, toResidue}
-use Rattle.model.specs.Calls.{accept, refuse, above, below, unfilled, notAvailable, boundMissed, bidQuote, bidRound, depositOf, depositDone, withdrawOf, withdrawDone, orderOf, orderDone, cancelOf, cancelDone, openOf, openDone, enterOf, enterWith, enterDone, matchOf, matchDone, bidOf, bidDone, settleOf, settleDone, claimedRound, payingOrClosed, claimOf, claimWith, claimDone}
+use Rattle.model.specs.Calls.{accept, refuse, above, below, outside, unfilled, notAvailable, boundMissed, bidQuote, bidRound, depositOf, depositDone, withdrawOf, withdrawDone, orderOf, orderDone, cancelOf, cancelDone, openOf, openDone, enterOf, enterWith, enterDone, matchOf, matchDone, bidOf, bidDone, settleOf, settleDone, claimedRound, payingOrClosed, claimOf, claimWith, claimDone}
 use Rattle.model.specs.Bounds.{Bounded, TicketBounds, shareIn, gotIn}
 use Rattle.model.specs.Parts.{bankForm, orderForm, cancelForm, openForm, ticketForm, marketForm, bidForm, formOf, byForm, marketIn, memberIn, supplyAt, residueAt, ticketAt, unbanked, depositedOn, depositOn, withdrawnOn, withdrawOn, putBanked, unplaced, orderFrom, orderedOn, orderOn, cancelledOn, cancelOn, putPlaced, unmoved, openedOn, openOn, matchedOn, matchOn, settledOn, settleOn, putMoved, unjoined, enteredOn, enterOn, putJoined, untraded, tradedOn, bidOn, putTraded, unclaimed, paidOn, claimOn, putClaimed}
+
+use Rattle.model.proofs.Frames.{inside}
 
 -- ---- forms
 
@@ -61,6 +63,50 @@ on-form x ts us out mid h =
 pub form-good : (ts : List (Test Refusal)) → formOf ts ≡ Good → Passed ts
 unfolding formOf
 form-good ts e = passed-all Bad Good (λ r q. absurd (let z : _≡_ {A = ℕ} 0 1 = cc in omega arith)) ts e
+
+-- what a call does after its form
+pub after-bad : {f : Form} {r : Refusal} (x : Exchange) (out : Outcome) → f ≡ Bad r → byForm f (refuse x) out ≡ refuse x r
+after-bad x out e = ap (λ (f : Form). byForm f (refuse x) out) e
+
+pub after-good : {f : Form} (x : Exchange) (out : Outcome) → f ≡ Good → byForm f (refuse x) out ≡ out
+after-good x out e = ap (λ (f : Form). byForm f (refuse x) out) e
+
+-- the places that a good form names
+pub bank-places : (m t n : ℕ) → formOf (bankForm m t n) ≡ Good → (m < 16) × (t < 4)
+bank-places m t n e =
+    let p = form-good (bankForm m t n) e in
+    (omega (arith, ltb-false 15 m (p .0)), omega (arith, ltb-false 3 t (p .1 .0)))
+
+pub order-places : (k m n side limit a : ℕ) → formOf (orderForm k m n side limit a) ≡ Good → (k < 64) × (m < 16) × (n < 4)
+order-places k m n side limit a e =
+    let p = form-good (orderForm k m n side limit a) e in
+    (omega (arith, ltb-false 63 k (p .1 .1 .0)), omega (arith, ltb-false 15 m (p .0)), omega (arith, inside n 1 3 (p .1 .0) .1))
+
+pub cancel-places : (k m : ℕ) → formOf (cancelForm k m) ≡ Good → (k < 64) × (m < 16)
+cancel-places k m e =
+    let p = form-good (cancelForm k m) e in
+    (omega (arith, ltb-false 63 k (p .1 .0)), omega (arith, ltb-false 15 m (p .0)))
+
+pub open-places : (n r w len : ℕ) → formOf (openForm n r w len) ≡ Good → (0 < n) × (n < 4) × (r ≤ 1000000000) × (w ≤ 500000)
+open-places n r w len e =
+    let p = form-good (openForm n r w len) e in
+    let q = or-false (outside r 1 1000000000) (above w 500000 || outside len 1 64) (p .1 .0) in
+    let i = inside n 1 3 (p .0) in
+    (omega (arith, i .0), omega (arith, i .1), inside r 1 1000000000 (q .0) .1, ltb-false 500000 w (or-false (above w 500000) (outside len 1 64) (q .1) .0))
+
+pub ticket-place : (k : ℕ) → formOf (ticketForm k) ≡ Good → k < 64
+ticket-place k e = omega (arith, ltb-false 63 k (form-good (ticketForm k) e .0))
+
+pub market-in : (n : ℕ) → formOf (marketForm n) ≡ Good → (0 < n) × (n < 4)
+market-in n e =
+    let i = inside n 1 3 (form-good (marketForm n) e .0) in
+    (omega (arith, i .0), omega (arith, i .1))
+
+pub bid-places : (n m side a : ℕ) → formOf (bidForm n m side a) ≡ Good → (0 < n) × (n < 4) × (m < 16)
+bid-places n m side a e =
+    let p = form-good (bidForm n m side a) e in
+    let i = inside n 1 3 (p .1 .0) in
+    (omega (arith, i .0), omega (arith, i .1), omega (arith, ltb-false 15 m (p .0)))
 
 -- ---- parts put back as they were
 
