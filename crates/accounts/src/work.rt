@@ -1,6 +1,7 @@
 // Deposit, withdraw, order and cancel on the parts that they touch. Public for the crates above; what they ask of their parts holds of the
 // parts of every reachable state.
 ghost use mathlib.Core.Path.{_≡_};
+ghost use mathlib.Core.Bool.{not};
 ghost use Prim.Native.Nat.{_<_};
 ghost use Rattle.model.specs.State.{isFree};
 ghost use Rattle.model.specs.Bounds.{BankBounds, CancelBounds};
@@ -76,14 +77,14 @@ fn refused(row: Row, ticket: Ticket, why: Refusal) -> Placed
     }
 }
 
-fn is_free(ticket: Ticket) -> bool
-    ensures { λ r. ⌜ r ≡ isFree (ticket .state) ⌝ }
+fn in_use(ticket: Ticket) -> bool
+    ensures { λ r. ⌜ r ≡ not (isFree (ticket .state)) ⌝ }
 {
     let state = ticket.state;
     match state {
-        TicketState::Free => true,
-        TicketState::Resting(_) => false,
-        TicketState::Entered(_) => false,
+        TicketState::Free => false,
+        TicketState::Resting(_) => true,
+        TicketState::Entered(_) => true,
     }
 }
 
@@ -92,7 +93,7 @@ pub fn order(row: Row, ticket: Ticket, o: Order) -> Placed
     requires { ⌜ o .market < 4 ⌝ }
     ensures { λ r. ⌜ r ≡ orderOn row ticket o ⌝ }
 {
-    if !is_free(ticket) {
+    if in_use(ticket) {
         return refused(row, ticket, Refusal::TicketInUse);
     }
     let side = o.side;

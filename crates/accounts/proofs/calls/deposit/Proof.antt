@@ -1,54 +1,61 @@
+-- `accounts::calls::deposit` meets its contract.
+use mathlib.Core.Path.{sym, ap, ap₂, _∙_, _≡_}
+use Rattle.model.specs.declared.parts.Form.the-variants.{Good}
+use Rattle.model.proofs.ReachBounds.{reachable-bounded}
+use Prim.Native.Nat.{_<_}
+use Rattle.units.specs.declared.Amount.{Amount}
+use Rattle.ledger.specs.declared.Row.{Row}
+use Rattle.model.specs.Parts.{formOf, bankForm, depositOn, putBanked}
+use Rattle.model.proofs.OnParts.{after-bad, after-good, bank-places, deposit-on}
+use Rattle.model.proofs.PartBounds.{bank-bounds}
 use borrow.Author.Needs.{needs}
 use Rattle.accounts.proofs.calls.deposit.Statement.{statement}
 use Rattle.accounts.proofs.calls.deposit.Tie as tie
-use Rattle.accounts.proofs.calls.deposit.Reads as reads
-use Rattle.accounts.proofs.calls.deposit.Lts as lts
-use Rattle.accounts.proofs.work.deposit.Reads as deposit-reads
-use Rattle.ledger.proofs.row_of.Reads as row-of-reads
-use Rattle.parts.proofs.forms.bank_form.Reads as bank-form-reads
-use Rattle.parts.proofs.places.put_banked.Reads as put-banked-reads
-use Rattle.parts.proofs.places.refused.Reads as refused-reads
-use Rattle.parts.proofs.places.supply_at.Reads as supply-at-reads
 
--- src/calls.rt:28:9
+-- the form was found good
+formed : (c : tie.After-enum-told) → let a = c .before .before .before .args in formOf (bankForm (a .member) (a .token) (a .amount)) ≡ Good
+formed c = sym (c .before .before .bank-form .ensures) ∙ c .enum-told .given .1
+
+good : (c : tie.After-enum-told) → let a = c .before .before .before .args in (a .member < 16) × (a .token < 4)
+good c = let a = c .before .before .before .args in bank-places (a .member) (a .token) (a .amount) (formed c)
+
 bank-form-requires : tie.Need-bank-form-requires
 bank-form-requires c κs = search needs
 
--- src/calls.rt:30:19
 enum-known-form : tie.Need-enum-known-form
 enum-known-form c = search needs
 
--- src/calls.rt:30:27
 refused-requires : tie.Need-refused-requires
 refused-requires c κs = search needs
 
--- src/calls.rt:32:17
 enum-told : tie.Need-enum-told
 enum-told c = search needs
 
--- src/calls.rt:33:17
 row-of-requires : tie.Need-row-of-requires
-row-of-requires c κs = ?
+row-of-requires c κs = good (c .before) .0
 
--- src/calls.rt:34:40
 supply-at-requires : tie.Need-supply-at-requires
-supply-at-requires c κs = ?
+supply-at-requires c κs = good (c .before .before) .1
 
--- src/calls.rt:34:17
 deposit-requires : tie.Need-deposit-requires
-deposit-requires c κs = ?
+deposit-requires c κs = let s = c .before .before .before .before .before .before  in
+    let g = good (c .before .before .before) in
+    rw (c .before .row-of .ensures, c .supply-at .ensures) (bank-bounds (s .args .x) (reachable-bounded (s .args .x) (s .pre)) (s .args .member) (s .args .token) (g .0) (g .1))
 
--- src/calls.rt:35:13
 put-banked-requires : tie.Need-put-banked-requires
-put-banked-requires c κs = ?
+put-banked-requires c κs = good (c .before .before .before .before)
 
--- src/calls.rt:24:1
 returns : tie.Need-returns
-returns c = ?
+returns c = let a = c .before .before .before .before .before .args in
+    c .refused .ensures ∙ sym (deposit-on (a .x) (a .member) (a .token) (a .amount) ∙ after-bad (a .x) _ (sym (c .before .before .before .before .bank-form .ensures) ∙ c .before .before .form .given .1))
 
--- src/calls.rt:24:1
 returns-2 : tie.Need-returns-2
-returns-2 c = ?
+returns-2 c = let a = c .before .before .before .before .before .before .before .before .args in
+    c .put-banked .ensures
+    ∙ ap (putBanked (a .x) (a .member) (a .token))
+    (c .before .deposit .ensures
+    ∙ ap₂ (λ (row : Row) (supply : Amount). depositOn row supply (a .token) (a .amount)) (c .before .before .before .row-of .ensures) (c .before .before .supply-at .ensures))
+    ∙ sym (deposit-on (a .x) (a .member) (a .token) (a .amount) ∙ after-good (a .x) _ (formed (c .before .before .before .before .before )))
 
 pub deposit-spec : {M : Type 1} → statement M
 deposit-spec =

@@ -1,67 +1,76 @@
+-- `accounts::work::cancel` meets its contract.
+use Rattle.accounts.proofs.Laws.{cancel-free, cancel-resting-other, cancel-entered-other, cancel-entered-own, cancel-resting-own}
+use mathlib.Core.Path.{sym, ap, ap₂, subst, _∙_, _≡_, refl}
+use native.Mathlib.Omega.{arith}
+use borrow.Author.Tests.{lt-ltb, le-ltb, ne-eqb, eq-eqb}
+use Prim.Native.Nat.{ℕ, _+_, _≤_, _<_}
+use mathlib.Core.Bool.{Bool, true, false, not}
+use Rattle.units.specs.declared.Amount.{Amount}
+use Rattle.units.specs.Counts.{largest}
+use Rattle.ledger.specs.Balances.{cellOf}
+use Rattle.model.specs.Sides.{offered}
+use Rattle.model.specs.State.{isFree}
+use Rattle.model.proofs.Frames.{offered-lt}
+use Rattle.ledger.proofs.Laws.{credit-row-done}
+use Rattle.model.specs.Parts.{cancelOn}
 use borrow.Author.Needs.{needs}
 use Rattle.accounts.proofs.work.cancel.Statement.{statement}
 use Rattle.accounts.proofs.work.cancel.Tie as tie
-use Rattle.accounts.proofs.work.cancel.Reads as reads
-use Rattle.accounts.proofs.work.cancel.Lts as lts
-use Rattle.accounts.proofs.work.refused.Reads as refused-reads
-use Rattle.ledger.proofs.credit_row.Reads as credit-row-reads
-use Rattle.parts.proofs.sides.offered_token.Reads as offered-token-reads
 
--- src/work.rt:123:51
 enum-told : tie.Need-enum-told
 enum-told c = search needs
 
--- src/work.rt:123:30
 refused-requires : tie.Need-refused-requires
 refused-requires c κs = search needs
 
--- src/work.rt:124:30
 enum-known-state : tie.Need-enum-known-state
 enum-known-state c = search needs
 
--- src/work.rt:126:17
 refused-requires-2 : tie.Need-refused-requires-2
 refused-requires-2 c κs = search needs
 
--- src/work.rt:126:17
 returns : tie.Need-returns
-returns c = ?
+returns c = let a = c .before .before .before .before .before .before .args in
+    c .refused2 .ensures ∙ sym (cancel-resting-other (a .row) (a .ticket) (a .member) _ (c .before .before .before .before .state .given .1) (c .before .if1 .taken))
 
--- src/work.rt:130:37
 offered-token-requires : tie.Need-offered-token-requires
 offered-token-requires c κs = search needs
 
--- src/work.rt:130:17
 credit-row-requires : tie.Need-credit-row-requires
 credit-row-requires c κs = search needs
 
--- src/work.rt:140:30
 enum-known-state-2 : tie.Need-enum-known-state-2
 enum-known-state-2 c = search needs
 
--- src/work.rt:142:17
 refused-requires-3 : tie.Need-refused-requires-3
 refused-requires-3 c κs = search needs
 
--- src/work.rt:142:17
 returns-2 : tie.Need-returns-2
-returns-2 c = ?
+returns-2 c = let a = c .before .before .before .before .before .before .args in
+    c .refused3 .ensures ∙ sym (cancel-entered-other (a .row) (a .ticket) (a .member) _ (c .before .before .before .before .state2 .given .1) (c .before .if2 .taken))
 
--- src/work.rt:144:13
 refused-requires-4 : tie.Need-refused-requires-4
 refused-requires-4 c κs = search needs
 
--- src/work.rt:117:1
 returns-3 : tie.Need-returns-3
-returns-3 c = ?
+returns-3 c = let a = c .before .before .before .args in
+    c .refused .ensures ∙ sym (cancel-free (a .row) (a .ticket) (a .member) (c .before .enum-told .given .1))
 
--- src/work.rt:117:1
 returns-4 : tie.Need-returns-4
-returns-4 c = ?
+returns-4 c = let a = c .before .before .before .before .before .before .before .before .before .args in
+    let e = c .before .before .before .before .before .before .before .state .given .1 in
+    let o = c .before .before .before .before .before .before .before .state .given .0 .0 in
+    let pre = c .before .before .before .before .before .before .before .before .before .pre o e in
+    rw (
+      c .before .credit-row .ensures,
+      c .before .before .offered-token .ensures,
+      credit-row-done (a .row) (offered (o .side) (o .market)) (o .offer .0) (omega (arith, offered-lt (o .side) (o .market) (pre .0))) (pre .1),
+    )
+    (sym (cancel-resting-own (a .row) (a .ticket) (a .member) o e (c .before .before .before .before .if1 .left)))
 
--- src/work.rt:117:1
 returns-5 : tie.Need-returns-5
-returns-5 c = ?
+returns-5 c = let a = c .before .before .before .before .before .before .args in
+    c .refused4 .ensures ∙ sym (cancel-entered-own (a .row) (a .ticket) (a .member) _ (c .before .before .before .before .state2 .given .1) (c .before .if2 .left))
 
 pub cancel-spec : {M : Type 1} → statement M
 cancel-spec =

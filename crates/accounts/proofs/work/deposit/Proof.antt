@@ -1,38 +1,46 @@
+-- `accounts::work::deposit` meets its contract.
+use Prim.Native.Nat.{_≤_}
+use mathlib.Core.Path.{sym, ap, ap₂, _∙_}
+use native.Mathlib.Omega.{arith}
+use borrow.Author.Tests.{lt-ltb, le-ltb}
+use Rattle.units.specs.Counts.{largest}
+use Prim.Native.Nat.{_+_}
+use Rattle.units.proofs.Tests.{tests}
+use Rattle.ledger.proofs.Laws.{credit-row-done}
+use Rattle.model.specs.Parts.{depositOn}
 use borrow.Author.Needs.{needs}
 use Rattle.accounts.proofs.work.deposit.Statement.{statement}
 use Rattle.accounts.proofs.work.deposit.Tie as tie
-use Rattle.accounts.proofs.work.deposit.Reads as reads
-use Rattle.accounts.proofs.work.deposit.Lts as lts
-use Rattle.ledger.proofs.credit_row.Reads as credit-row-reads
-use Rattle.ledger.proofs.entry_amount.Reads as entry-amount-reads
 
--- src/work.rt:28:16
 cast-sum : tie.Need-cast-sum
 cast-sum c = search needs
 
--- src/work.rt:28:15
 add-sum : tie.Need-add-sum
 add-sum c = search needs
 
--- src/work.rt:30:9
 returns : tie.Need-returns
-returns c = ?
+unfolding depositOn
+returns c = search tests
 
--- src/work.rt:36:9
 credit-row-requires : tie.Need-credit-row-requires
 credit-row-requires c κs = search needs
 
--- src/work.rt:40:34
 entry-amount-requires : tie.Need-entry-amount-requires
 entry-amount-requires c κs = search needs
 
--- src/work.rt:42:24
 cast-t17 : tie.Need-cast-t17
 cast-t17 c = search needs
 
--- src/work.rt:24:1
 returns-2 : tie.Need-returns-2
-returns-2 c = ?
+unfolding depositOn
+returns-2 c = let a = c .before .before .before .before .before .args in
+    let pre = c .before .before .before .before .before .pre in
+    let fits : a .supply .0 + a .amount ≤ largest = c .before .before .before .if1 .left in
+    rw (
+      c .entry-amount .ensures,
+      c .before .before .credit-row .ensures ∙ credit-row-done (a .row) (a .token) (a .amount) (omega (arith, pre .0)) (omega (arith, pre .1, fits)),
+      le-ltb largest (a .supply .0 + a .amount) fits,
+    )
 
 pub deposit-spec : {M : Type 1} → statement M
 deposit-spec =

@@ -1,35 +1,43 @@
+-- `accounts::work::withdraw` meets its contract.
+use mathlib.Core.Path.{sym, ap, ap₂, _∙_}
+use native.Mathlib.Omega.{arith}
+use borrow.Author.Tests.{lt-ltb, le-ltb}
+use Prim.Native.Nat.{_≤_}
+use Rattle.units.specs.declared.Amount.{Amount}
+use Rattle.ledger.specs.Balances.{cellOf}
+use Rattle.ledger.proofs.Laws.{debit-row-done}
+use Rattle.model.specs.Parts.{withdrawOn}
 use borrow.Author.Needs.{needs}
 use Rattle.accounts.proofs.work.withdraw.Statement.{statement}
 use Rattle.accounts.proofs.work.withdraw.Tie as tie
-use Rattle.accounts.proofs.work.withdraw.Reads as reads
-use Rattle.accounts.proofs.work.withdraw.Lts as lts
-use Rattle.ledger.proofs.cell_of.Reads as cell-of-reads
-use Rattle.ledger.proofs.debit_row.Reads as debit-row-reads
-use Rattle.ledger.proofs.entry_amount.Reads as entry-amount-reads
 
--- src/work.rt:51:9
 cell-of-requires : tie.Need-cell-of-requires
 cell-of-requires c κs = search needs
 
--- src/work.rt:53:9
 returns : tie.Need-returns
-returns c = ?
+unfolding withdrawOn
+returns c = let a = c .before .before .before .args in
+    rw (lt-ltb (cellOf (a .row) (a .token)) (a .amount) (omega (arith, ap (λ (n : Amount). n .0) (c .before .before .cell-of .ensures))))
 
--- src/work.rt:59:9
 debit-row-requires : tie.Need-debit-row-requires
 debit-row-requires c κs = search needs
 
--- src/work.rt:63:34
 entry-amount-requires : tie.Need-entry-amount-requires
 entry-amount-requires c κs = search needs
 
--- src/work.rt:65:24
 sub-t15 : tie.Need-sub-t15
-sub-t15 c = ?
+sub-t15 c = omega (arith, ap (λ (n : Amount). n .0) (c .before .before .before .before .before .before .cell-of .ensures), c .before .before .before .before .before .before .before .pre .1, c .before .before .before .before .if1 .left)
 
--- src/work.rt:47:1
 returns-2 : tie.Need-returns-2
-returns-2 c = ?
+unfolding withdrawOn
+returns-2 c = let a = c .before .before .before .before .before .before .before .args in
+    let pre = c .before .before .before .before .before .before .before .pre in
+    let le : a .amount ≤ cellOf (a .row) (a .token) = omega (arith, ap (λ (n : Amount). n .0) (c .before .before .before .before .before .before .cell-of .ensures), c .before .before .before .before .if1 .left) in
+    rw (
+      c .before .entry-amount .ensures,
+      c .before .before .before .debit-row .ensures ∙ debit-row-done (a .row) (a .token) (a .amount) (omega (arith, pre .0)) le,
+      le-ltb (cellOf (a .row) (a .token)) (a .amount) le,
+    )
 
 pub withdraw-spec : {M : Type 1} → statement M
 withdraw-spec =
