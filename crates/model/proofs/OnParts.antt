@@ -12,7 +12,7 @@ use Rattle.units.specs.declared.Amount.{Amount}
 use Rattle.units.specs.declared.Block.{Block}
 use Rattle.units.specs.Counts.{amount, block, largest}
 use Rattle.units.specs.Decide.{Test, when, decide}
-use Rattle.units.proofs.Decide.{Passed, decide-split, decide-carried, passed-all, or-false}
+use Rattle.units.proofs.Decide.{Passed, decide-split, decide-carried, passed-by, or-false}
 use Rattle.ticket_set.specs.TicketSet.{countOf}
 use Rattle.pricing.specs.declared.Side.{Side}
 use Rattle.pricing.specs.Prices.{offLimit}
@@ -62,7 +62,7 @@ on-form x ts us out mid h =
 -- a good form passed every test
 pub form-good : (ts : List (Test Refusal)) → formOf ts ≡ Good → Passed ts
 unfolding formOf
-form-good ts e = passed-all Bad Good (λ r q. absurd (let z : _≡_ {A = ℕ} 0 1 = cc in omega arith)) ts e
+form-good ts e = passed-by (λ (f : Form). f ≡ Good) Bad Good (λ r q. absurd (let z : _≡_ {A = ℕ} 0 1 = cc in omega arith)) ts e
 
 -- what a call does after its form
 pub after-bad : {f : Form} {r : Refusal} (x : Exchange) (out : Outcome) → f ≡ Bad r → byForm f (refuse x) out ≡ refuse x r

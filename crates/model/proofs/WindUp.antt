@@ -7,14 +7,16 @@ use native.Mathlib.Decide.{decLt, ℕ-discrete}
 use native.Mathlib.Omega.{arith}
 use lib.Dec.{eqb}
 use lib.ListN.{List·getD-eq-default, length, length-map}
-use borrow.Author.Tests.{eq-eqb, le-ltb, lt-ltb, ne-eqb}
+use borrow.Author.Tests.{eq-eqb, le-ltb, lt-ltb, ne-eqb, not-false}
+use mathlib.Core.Logic.{_⊎_, inl, inr}
 use Rattle.model.specs.Answers.{codeOf}
 use Rattle.model.specs.Calls.{above, claimWith, claimedRound, payingOrClosed, refuse, settleDone, settleOf, settleTests, settleWith, settledPhase, unfilled}
-use Rattle.model.specs.Closing.{AllAccepted, BackToClosed, CanClose, Names, WindsUp, afterCalls, next-call, no-call, times}
+use Rattle.model.specs.Closing.{AllAccepted, BackToClosed, CanClose, Names, SettleCloses, WindsUp, afterCalls, next-call, no-call, times}
 use Rattle.model.specs.History.{History, auctioning, logOf, running}
 use Rattle.model.specs.Run.{Reachable, after-call, stepOf}
 use Rattle.model.specs.Sides.{wanted}
 use Rattle.model.specs.State.{closedMarket, credit, isAuction, isClosed, lastBlock, phase, restingOr, roundIn, ticket, toResidue, totalsOf, withPhase, withTicket}
+use Rattle.model.specs.declared.answer.Answer.the-variants.{Accepted}
 use Rattle.model.specs.declared.answer.Outcome.{Outcome}
 use Rattle.model.specs.declared.state.Exchange.{Exchange}
 use Rattle.model.specs.declared.state.Market.{Market}
@@ -25,16 +27,20 @@ use Rattle.model.specs.declared.state.Round.{Round}
 use Rattle.model.specs.declared.state.TicketState.the-variants.{Entered}
 use Rattle.pricing.specs.Prices.{shareGot, sharePaid}
 use Rattle.pricing.specs.declared.Totals.{Totals}
-use Rattle.ticket_set.specs.TicketSet.{bit, countOf, removed}
+use Rattle.ticket_set.specs.TicketSet.{bit, countOf, membersFrom, membersOf, nextOf, removed}
+use Rattle.ticket_set.specs.declared.Next.the-variants.{At}
 use Rattle.units.specs.Counts.{largest}
-use Rattle.model.proofs.Inv.{Inv, MarketOk, RoundOk, running-is}
+use Rattle.model.proofs.Inv.{Inv, MarketOk, RoundOk, auction-is, running-is}
+use Rattle.model.proofs.Frames.{inside}
 use Rattle.model.proofs.Reach.{reachable-inv}
 use Rattle.model.proofs.ReachBounds.{marked-order}
 use Rattle.model.proofs.Reading.{Sized, phase-same}
 use Rattle.model.proofs.WholeRun.{claim-passes}
-use Rattle.ticket_set.proofs.Bits.{bit-lt, bit-removed-other, bit-removed-same, removed-lt}
-use Rattle.ticket_set.proofs.Laws.{bit-high, count-le, count-removed}
-use Rattle.units.proofs.Decide.{decide-passed}
+use Rattle.ticket_set.proofs.Bits.{bit-cases, bit-lt, bit-removed-other, bit-removed-same, removed-lt}
+use Rattle.ticket_set.proofs.Laws.{bit-high, count-le, count-none, count-removed}
+use Rattle.ticket_set.proofs.Least.{next-taken}
+use Rattle.ticket_set.proofs.Members.{members-here, members-there}
+use Rattle.units.proofs.Decide.{Passed, decide-passed, passed-by}
 use Rattle.units.proofs.Sums.{sum-zero}
 use Rattle.model.specs.declared.call.Call.the-variants as Call
 
@@ -107,36 +113,51 @@ auction-market x z (suc i) r e = (omega arith, go (decLt i 3))
         let c : phase x (suc i) ≡ Closed = ap (λ (m : Market). m .phase) (List·getD-eq-default (x .markets) closedMarket l) in
         absurd (let q : _≡_ {A = ℕ} 0 1 = cc in omega arith)
 
-module _ (x : Exchange) (mk at : ℕ) (r : Round) (z : Sized x) (pos : 0 < mk) (lt4 : mk < 4) (ep : phase x mk ≡ Auction r)
-    (over : r .start .0 + r .length < at) (late : lastBlock x ≤ at) where
-  -- no test stops it
-  settle-passes : stepOf x (Call.Settle mk at) ≡ settleWith x mk at r
+-- above start + L no test stops it
+settle-tests : (x : Exchange) (mk at : ℕ) (r : Round) → 0 < mk → mk < 4 → phase x mk ≡ Auction r → r .start .0 + r .length < at → lastBlock x ≤ at
+    → Passed (settleTests x mk at)
+settle-tests x mk at r pos lt4 ep over late = (
+  rw (le-ltb mk 1 pos, le-ltb 3 mk (omega arith)),
+  (
+    ap (λ p. not (isAuction p)) ep,
+    (
+      le-ltb at (lastBlock x) late,
+      (
+        ap (λ p. (unfilled (roundIn p .buys) || unfilled (roundIn p .sells)) && not (above at (roundIn p .start .0 + roundIn p .length))) ep
+            ∙ ap (λ (q : Bool). (unfilled (r .buys) || unfilled (r .sells)) && not q) (lt-ltb (r .start .0 + r .length) at over)
+            ∙ and-none (unfilled (r .buys) || unfilled (r .sells)),
+        tt,
+      ),
+    ),
+  ),
+)
+
+-- a settle that was accepted passed its tests
+accepted-tests : (x : Exchange) (mk at a b : ℕ) → stepOf x (Call.Settle mk at) .answer ≡ Accepted a b → Passed (settleTests x mk at)
+unfolding stepOf settleOf
+accepted-tests x mk at a b e =
+    passed-by (λ (out : Outcome). out .answer ≡ Accepted a b) (refuse x) (settleDone x mk at)
+    (λ r q. absurd (let z : _≡_ {A = ℕ} 0 1 = cc in omega arith)) (settleTests x mk at) e
+
+module _ (x : Exchange) (mk at : ℕ) (z : Sized x) (p : Passed (settleTests x mk at)) where
+  settle-market : (0 < mk) × (mk < 4)
+  settle-market = let i = inside mk 1 3 (p .0) in (omega (arith, i .0), omega (arith, i .1))
+
+  settle-auction : phase x mk ≡ Auction (roundIn (phase x mk))
+  settle-auction = auction-is (phase x mk) (not-false (isAuction (phase x mk)) (p .1 .0))
+
+  settle-passes : stepOf x (Call.Settle mk at) ≡ settleWith x mk at (roundIn (phase x mk))
   unfolding stepOf settleOf
-  settle-passes =
-      decide-passed (refuse x) (settleDone x mk at) (settleTests x mk at) (
-        rw (le-ltb mk 1 pos, le-ltb 3 mk (omega arith)),
-        (
-          ap (λ p. not (isAuction p)) ep,
-          (
-            le-ltb at (lastBlock x) late,
-            (
-              ap (λ p. (unfilled (roundIn p .buys) || unfilled (roundIn p .sells)) && not (above at (roundIn p .start .0 + roundIn p .length))) ep
-                  ∙ ap (λ (q : Bool). (unfilled (r .buys) || unfilled (r .sells)) && not q) (lt-ltb (r .start .0 + r .length) at over)
-                  ∙ and-none (unfilled (r .buys) || unfilled (r .sells)),
-              tt,
-            ),
-          ),
-        ),
-      )
-      ∙ ap (λ p. settleWith x mk at (roundIn p)) ep
+  settle-passes = decide-passed (refuse x) (settleDone x mk at) (settleTests x mk at) p
 
   -- it is accepted, and its market is paying, or closed where no ticket is marked
   settle-accepted : codeOf (stepOf x (Call.Settle mk at) .answer) ≡ 0
   settle-accepted = ap (λ (out : Outcome). codeOf (out .answer)) settle-passes
 
-  settle-leaves : phase (stepOf x (Call.Settle mk at) .exchange) mk ≡ settledPhase r
+  settle-leaves : phase (stepOf x (Call.Settle mk at) .exchange) mk ≡ settledPhase (roundIn (phase x mk))
   settle-leaves =
-      ap (λ (out : Outcome). phase (out .exchange) mk) settle-passes ∙ phase-same x mk (settledPhase r) pos (omega (arith, z .markets))
+      ap (λ (out : Outcome). phase (out .exchange) mk) settle-passes
+      ∙ phase-same x mk (settledPhase (roundIn (phase x mk))) (settle-market .0) (omega (arith, settle-market .1, z .markets))
 
 -- ---- the claims
 
@@ -211,82 +232,140 @@ auction-tickets x y i mk r ep =
     ok .marks-small
 
 -- the settle, and then the claims
-pub winds-up : WindsUp
+closed-after : (x : Exchange) → Reachable x → (mk at : ℕ) → Passed (settleTests x mk at) → (ks : List ℕ) → Names (roundIn (phase x mk) .tickets) ks
+    → BackToClosed x mk at ks
 unfolding afterCalls
-winds-up x l mk r ep at over late ks n =
+closed-after x l mk at p ks n =
     let v = reachable-inv l in
     let z : Sized x = v .1 .sized in
-    let small : r .tickets < 2 ^ 64 = auction-tickets x (v .0) (v .1) mk r ep in
-    let m : (0 < mk) × (mk < 4) = auction-market x z mk r ep in
+    let r : Round = roundIn (phase x mk) in
+    let m : (0 < mk) × (mk < 4) = settle-market x mk at z p in
+    let small : r .tickets < 2 ^ 64 = auction-tickets x (v .0) (v .1) mk r (settle-auction x mk at z p) in
     let c =
     claims-close ks (stepOf x (Call.Settle mk at) .exchange) (after-call l (Call.Settle mk at)) mk (m .0) (m .1) r small n
-    (settle-leaves x mk at r z (m .0) (m .1) ep over late) in
+    (settle-leaves x mk at z p) in
     record {
-      accepted = next-call (settle-accepted x mk at r z (m .0) (m .1) ep over late) (c .0);
+      accepted = next-call (settle-accepted x mk at z p) (c .0);
       closed = c .1;
       at-most = omega (arith, length-map ks Call.Claim, names-length (r .tickets) ks small n, count-le (r .tickets));
     }
 
+pub winds-up : WindsUp
+winds-up x l mk r ep at over late ks n =
+    let m : (0 < mk) × (mk < 4) = auction-market x (reachable-inv l .1 .sized) mk r ep in
+    closed-after x l mk at (settle-tests x mk at r (m .0) (m .1) ep over late) ks
+    (subst (λ (p : Phase). Names (roundIn p .tickets) ks) (sym ep) n)
+
+pub settle-closes : SettleCloses
+settle-closes x l mk at a b e ks n = closed-after x l mk at (accepted-tests x mk at a b e) ks n
+
 -- ---- such a list is there
 
--- n in front where the bit is set
-joined : ℕ → ℕ → List ℕ → List ℕ
-joined zero n l = l
-joined (suc b) n l = n ∷ l
-
--- the members of s below n
-members : ℕ → ℕ → List ℕ
-members zero s = []
-members (suc n) s = joined (bit s n) n (members n s)
-
--- how often a number stands in it
-joined-same : (b n : ℕ) (l : List ℕ) → b < 2 → times n (joined b n l) ≡ b + times n l
-unfolding joined
-joined-same zero n l h = omega arith
-joined-same (suc zero) n l h = times-here n l
-joined-same (suc (suc b)) n l h = absurd (omega arith)
-
-joined-other : (b n : ℕ) (l : List ℕ) (j : ℕ) → (n ≡ j → ⊥) → times j (joined b n l) ≡ times j l
-unfolding joined
-joined-other zero n l j d = refl
-joined-other (suc b) n l j d = times-there j n l d
-
--- each member below n stands there once
-times-members : (n s j : ℕ) → (j < n → times j (members n s) ≡ bit s j) × (n ≤ j → times j (members n s) ≡ 0)
-unfolding members times
-times-members zero s j = (λ l. absurd (omega arith), λ l. refl)
-times-members (suc n) s j = go (ℕ-discrete n j) (times-members n s j)
+-- each of the n tickets from i on that is a member stands there once, and no other
+times-members : (n i s j : ℕ) → (i ≤ j → j < i + n → times j (membersFrom n i s) ≡ bit s j) × (j < i → times j (membersFrom n i s) ≡ 0) × (i + n ≤ j → times j (membersFrom n i s) ≡ 0)
+unfolding membersFrom times
+times-members zero i s j = (λ l u. absurd (omega arith), λ u. refl, λ l. refl)
+times-members (suc n) i s j = go (ℕ-discrete i j) (bit-cases s i) (times-members n (suc i) s j)
   where
-    go : Dec (n ≡ j) → (j < n → times j (members n s) ≡ bit s j) × (n ≤ j → times j (members n s) ≡ 0)
-        → (j < suc n → times j (joined (bit s n) n (members n s)) ≡ bit s j) × (suc n ≤ j → times j (joined (bit s n) n (members n s)) ≡ 0)
-    go (yes e) rec =
-        let z : times j (members n s) ≡ 0 = rec .1 (omega arith) in
-        let here : times j (joined (bit s n) n (members n s)) ≡ bit s n + times j (members n s) =
-        subst (λ (i : ℕ). times i (joined (bit s n) n (members n s)) ≡ bit s n + times i (members n s)) e (joined-same (bit s n) n (members n s) (bit-lt s n)) in
-        let same : bit s n ≡ bit s j = ap (bit s) e in
-        (λ l. omega arith, λ l. absurd (omega arith))
-    go (no d) rec = (
-      λ l. joined-other (bit s n) n (members n s) j d ∙ rec .0 (omega arith),
-      λ l. joined-other (bit s n) n (members n s) j d ∙ rec .1 (omega arith),
-    )
+    go : Dec (i ≡ j) → (bit s i ≡ 0) ⊎ (bit s i ≡ 1)
+        → (suc i ≤ j → j < suc i + n → times j (membersFrom n (suc i) s) ≡ bit s j) × (j < suc i → times j (membersFrom n (suc i) s) ≡ 0) × (suc i + n ≤ j → times j (membersFrom n (suc i) s) ≡ 0)
+        → (i ≤ j → j < i + suc n → times j (membersFrom (suc n) i s) ≡ bit s j) × (j < i → times j (membersFrom (suc n) i s) ≡ 0) × (i + suc n ≤ j → times j (membersFrom (suc n) i s) ≡ 0)
+    go (yes e) (inl z) rec =
+        let t : times j (membersFrom (suc n) i s) ≡ 0 = ap (times j) (members-there n i s z) ∙ rec .1 (omega arith) in
+        (λ l u. omega (arith, t, z, ap (bit s) e), λ u. t, λ l. t)
+    go (yes e) (inr o) rec =
+        let t : times j (membersFrom (suc n) i s) ≡ 1 + times j (membersFrom n (suc i) s) =
+        ap (times j) (members-here n i s o) ∙ subst (λ (k : ℕ). times k (i ∷ membersFrom n (suc i) s) ≡ 1 + times k (membersFrom n (suc i) s)) e (times-here i (membersFrom n (suc i) s)) in
+        (λ l u. omega (arith, t, rec .1 (omega arith), o, ap (bit s) e), λ u. absurd (omega arith), λ l. absurd (omega arith))
+    go (no d) (inl z) rec =
+        let t : times j (membersFrom (suc n) i s) ≡ times j (membersFrom n (suc i) s) = ap (times j) (members-there n i s z) in
+        (λ l u. t ∙ rec .0 (omega arith) (omega arith), λ u. t ∙ rec .1 (omega arith), λ l. t ∙ rec .2 (omega arith))
+    go (no d) (inr o) rec =
+        let t : times j (membersFrom (suc n) i s) ≡ times j (membersFrom n (suc i) s) =
+        ap (times j) (members-here n i s o) ∙ times-there j i (membersFrom n (suc i) s) d in
+        (λ l u. t ∙ rec .0 (omega arith) (omega arith), λ u. t ∙ rec .1 (omega arith), λ l. t ∙ rec .2 (omega arith))
 
--- the members below 64 are all
-members-named : (s : ℕ) → s < 2 ^ 64 → Names s (members 64 s)
+-- the members are all
+pub members-named : (s : ℕ) → s < 2 ^ 64 → Names s (membersOf s)
+unfolding membersOf
 members-named s h = record { each = λ k. go k (decLt k 64) }
   where
-    go : (k : ℕ) → Dec (k < 64) → times k (members 64 s) ≡ bit s k
-    go k (yes l) = times-members 64 s k .0 l
-    go k (no d) = times-members 64 s k .1 (omega arith) ∙ sym (bit-high s k h (omega arith))
+    go : (k : ℕ) → Dec (k < 64) → times k (membersFrom 64 0 s) ≡ bit s k
+    go k (yes l) = times-members 64 0 s k .0 (omega arith) (omega arith)
+    go k (no d) = times-members 64 0 s k .2 (omega arith) ∙ sym (bit-high s k h (omega arith))
 
 -- at the last block accepted, or at the first block above start + L
 pub can-close : CanClose
 can-close x l known mk r ep small = go (decLt (r .start .0 + r .length) (lastBlock x))
   where
-    named : Names (r .tickets) (members 64 (r .tickets))
+    named : Names (r .tickets) (membersOf (r .tickets))
     named = let v = reachable-inv l in members-named (r .tickets) (auction-tickets x (v .0) (v .1) mk r ep)
 
     go : Dec (r .start .0 + r .length < lastBlock x) → (at : ℕ) × (at ≤ largest) × (ks : List ℕ) × BackToClosed x mk at ks
-    go (yes h) = (lastBlock x, known, members 64 (r .tickets), winds-up x l mk r ep (lastBlock x) h (omega arith) (members 64 (r .tickets)) named)
+    go (yes h) = (lastBlock x, known, membersOf (r .tickets), winds-up x l mk r ep (lastBlock x) h (omega arith) (membersOf (r .tickets)) named)
     go (no d) =
         let at : ℕ = suc (r .start .0 + r .length) in
-        (at, omega arith, members 64 (r .tickets), winds-up x l mk r ep at (omega arith) (omega arith) (members 64 (r .tickets)) named)
+        (at, omega arith, membersOf (r .tickets), winds-up x l mk r ep at (omega arith) (omega arith) (membersOf (r .tickets)) named)
+
+-- ---- claim after claim, lowest first
+
+-- a market that was settled, with the tickets s still marked
+pub record Winding (x : Exchange) (market s : ℕ) : Type 0 where
+  pub reachable : Reachable x
+  pub low : 0 < market
+  pub high : market < 4
+  pub small : s < 2 ^ 64
+  pub round : Round
+  pub tickets : round .tickets ≡ s
+  pub phase-is : phase x market ≡ settledPhase round
+
+pub winding-settled : (x : Exchange) → Reachable x → (market at a b : ℕ) → stepOf x (Call.Settle market at) .answer ≡ Accepted a b
+    → Winding (stepOf x (Call.Settle market at) .exchange) market (roundIn (phase x market) .tickets)
+winding-settled x l mk at a b e =
+    let v = reachable-inv l in
+    let z : Sized x = v .1 .sized in
+    let p = accepted-tests x mk at a b e in
+    let m = settle-market x mk at z p in
+    record {
+      reachable = after-call l (Call.Settle mk at);
+      low = m .0;
+      high = m .1;
+      small = auction-tickets x (v .0) (v .1) mk (roundIn (phase x mk)) (settle-auction x mk at z p);
+      round = roundIn (phase x mk);
+      tickets = refl;
+      phase-is = settle-leaves x mk at z p;
+    }
+
+-- the tickets that the state marks are these
+settled-tickets : (r : Round) → r .tickets < 2 ^ 64 → roundIn (settledPhase r) .tickets ≡ r .tickets
+settled-tickets r h = go (ℕ-discrete (countOf (r .tickets)) 0)
+  where
+    go : Dec (countOf (r .tickets) ≡ 0) → roundIn (settledPhase r) .tickets ≡ r .tickets
+    go (yes e) = ap (λ (q : Bool). roundIn (cond q Closed (Paying r)) .tickets) (eq-eqb (countOf (r .tickets)) 0 e) ∙ sym (count-none (r .tickets) h e)
+    go (no d) = ap (λ (q : Bool). roundIn (cond q Closed (Paying r)) .tickets) (ne-eqb (countOf (r .tickets)) 0 d)
+
+module _ (x : Exchange) (market s : ℕ) (w : Winding x market s) where
+  pub winding-tickets : roundIn (phase x market) .tickets ≡ s
+  winding-tickets =
+      ap (λ (p : Phase). roundIn p .tickets) (w .phase-is)
+      ∙ settled-tickets (w .round) (subst (λ (t : ℕ). t < 2 ^ 64) (sym (w .tickets)) (w .small))
+      ∙ w .tickets
+
+  -- the next one claimed
+  pub winding-next : (k : ℕ) → nextOf s ≡ At k → Winding (stepOf x (Call.Claim k) .exchange) market (removed s k)
+  winding-next k e =
+      let n = next-taken s k e in
+      let v = reachable-inv (w .reachable) in
+      let some : eqb (countOf (w .round .tickets)) 0 ≡ false = ne-eqb (countOf (w .round .tickets)) 0 (λ q. omega (arith, n .2, q, ap countOf (w .tickets))) in
+      let ep : phase x market ≡ Paying (w .round) = w .phase-is ∙ ap (λ (q : Bool). cond q Closed (Paying (w .round))) some in
+      let c : Claimed x market k (w .round .tickets) =
+      claim-taken x (v .0) (v .1) market (w .low) (w .high) (w .round) ep k (n .0) (ap (λ (t : ℕ). bit t k) (w .tickets) ∙ n .1) in
+      record {
+        reachable = after-call (w .reachable) (Call.Claim k);
+        low = w .low;
+        high = w .high;
+        small = removed-lt s k (w .small);
+        round = c .left;
+        tickets = c .tickets ∙ ap (λ (t : ℕ). removed t k) (w .tickets);
+        phase-is = c .phase-is;
+      }

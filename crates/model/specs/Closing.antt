@@ -7,13 +7,14 @@ use mathlib.Core.List.{List, [], _∷_, map}
 use lib.Dec.{eqb}
 use lib.ListN.{length}
 use Rattle.units.specs.Counts.{largest}
-use Rattle.ticket_set.specs.TicketSet.{bit}
+use Rattle.ticket_set.specs.TicketSet.{bit, membersOf}
 use Rattle.model.specs.declared.state.Round.{Round}
 use Rattle.model.specs.declared.state.Phase.the-variants.{Closed, Auction}
 use Rattle.model.specs.declared.state.Exchange.{Exchange}
 use Rattle.model.specs.declared.call.Call.{Call}
 use Rattle.model.specs.declared.call.Call.the-variants as Call
-use Rattle.model.specs.State.{phase, lastBlock}
+use Rattle.model.specs.declared.answer.Answer.the-variants.{Accepted}
+use Rattle.model.specs.State.{phase, roundIn, lastBlock}
 use Rattle.model.specs.Answers.{codeOf}
 use Rattle.model.specs.Run.{stepOf, Reachable}
 
@@ -57,3 +58,13 @@ abbrev pub CanClose : Type 0
 CanClose =
     (x : Exchange) → Reachable x → lastBlock x ≤ largest → (market : ℕ) (r : Round) → phase x market ≡ Auction r
     → r .start .0 + r .length < largest → (at : ℕ) × (at ≤ largest) × (ks : List ℕ) × BackToClosed x market at ks
+
+-- a settle may also be accepted earlier, once nothing is left; whenever it is, the same holds
+abbrev pub SettleCloses : Type 0
+SettleCloses =
+    (x : Exchange) → Reachable x → (market at a b : ℕ) → stepOf x (Call.Settle market at) .answer ≡ Accepted a b
+    → (ks : List ℕ) → Names (roundIn (phase x market) .tickets) ks → BackToClosed x market at ks
+
+-- the settle, and a claim of each ticket that the market's round marks, lowest first
+unfoldable pub closingCalls : Exchange → ℕ → ℕ → List Call
+closingCalls x market at = windUp market at (membersOf (roundIn (phase x market) .tickets))

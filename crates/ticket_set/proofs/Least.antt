@@ -13,11 +13,11 @@ use Rattle.ticket_set.proofs.Bits.{bit-cases}
 use Rattle.ticket_set.proofs.Laws.{none-member, bit-of-empty, count-removed}
 
 -- one step of the search
-next-here : (d i m : ℕ) → bit m i ≡ 1 → nextFrom (suc d) i m ≡ At i
+pub next-here : (d i m : ℕ) → bit m i ≡ 1 → nextFrom (suc d) i m ≡ At i
 unfolding nextFrom
 next-here d i m e = rw e
 
-next-there : (d i m : ℕ) → bit m i ≡ 0 → nextFrom (suc d) i m ≡ nextFrom d (suc i) m
+pub next-there : (d i m : ℕ) → bit m i ≡ 0 → nextFrom (suc d) i m ≡ nextFrom d (suc i) m
 unfolding nextFrom
 next-there d i m e = rw e
 
@@ -30,7 +30,7 @@ pub record Least (d i m k : ℕ) : Type 0 where
   pub set : bit m k ≡ 1
   pub below : (j : ℕ) → i ≤ j → j < k → bit m j ≡ 0
 
-from-least : (d i m k : ℕ) → nextFrom d i m ≡ At k → Least d i m k
+pub from-least : (d i m k : ℕ) → nextFrom d i m ≡ At k → Least d i m k
 unfolding nextFrom
 from-least zero i m k e = absurd (let z : _≡_ {A = ℕ} 0 1 = cc in omega arith)
 from-least (suc d) i m k e =

@@ -1,6 +1,7 @@
 -- "The round marks each of the 64 tickets with one bit; the count of set bits is the number of its tickets": a set of tickets is a number
 -- whose bit k, counted from the lowest, is 1 where ticket k is a member.
 use mathlib.Core.Bool.{Bool, cond}
+use mathlib.Core.List.{List, [], _∷_}
 use Prim.Native.Nat.{ℕ, zero, suc, _+_, _-_, _*_, _/_, _%_, _^_}
 use lib.Dec.{eqb}
 use Rattle.units.specs.Sums.{sumTo}
@@ -36,3 +37,11 @@ nextFrom (suc n) k s = cond (hasTicket s k) (At k) (nextFrom n (suc k) s)
 -- the least member
 unfoldable pub nextOf : ℕ → Next
 nextOf s = nextFrom 64 0 s
+
+-- the members among the n tickets from k on, and all members, lowest first
+unfoldable pub membersFrom : ℕ → ℕ → ℕ → List ℕ
+membersFrom zero k s = []
+membersFrom (suc n) k s = cond (hasTicket s k) (k ∷ membersFrom n (suc k) s) (membersFrom n (suc k) s)
+
+unfoldable pub membersOf : ℕ → List ℕ
+membersOf s = membersFrom 64 0 s

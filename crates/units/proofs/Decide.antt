@@ -1,5 +1,5 @@
 -- The laws of a decision: it refuses for a test that applies, or no test applies and the outcome stands.
-use mathlib.Core.Path.{_≡_, refl, sym, _∙_}
+use mathlib.Core.Path.{_≡_, refl, subst}
 use mathlib.Core.Bool.{Bool, true, false, cond, _||_}
 use mathlib.Core.List.{List, [], _∷_, _++_}
 use native.Mathlib.Omega.{arith}
@@ -51,13 +51,13 @@ decide-carried g f b h c (t ∷ ts) back done = go (t .applies) refl (λ e. deci
     go true e rec = rw e (back (t .reason))
     go false e rec = rw e (rec e)
 
--- a decision for nothing was passed by all
-pub passed-all : {A B : Type 0} (f : A → B) (b : B) → ((r : A) → f r ≡ b → ⊥) → (ts : List (Test A)) → decide ts f b ≡ b → Passed ts
-passed-all f b apart [] e = tt
-passed-all f b apart (t ∷ ts) e = go (t .applies) refl (λ w. passed-all f b apart ts (sym (decide-next f b t ts w) ∙ e))
+-- a decision of which something holds that holds of no refusal passed every test
+pub passed-by : {A B : Type 0} (K : B → Type 0) (f : A → B) (b : B) → ((r : A) → K (f r) → ⊥) → (ts : List (Test A)) → K (decide ts f b) → Passed ts
+passed-by K f b apart [] k = tt
+passed-by K f b apart (t ∷ ts) k = go (t .applies) refl (λ w. passed-by K f b apart ts (subst K (decide-next f b t ts w) k))
   where
     go : (q : Bool) → t .applies ≡ q → (t .applies ≡ false → Passed ts) → Passed (t ∷ ts)
-    go true w rec = absurd (apart (t .reason) (sym (decide-stops f b t ts w) ∙ e))
+    go true w rec = absurd (apart (t .reason) (subst K (decide-stops f b t ts w) k))
     go false w rec = (w, rec w)
 
 -- neither of two tests
