@@ -46,7 +46,6 @@ use Rattle.model.specs.State.{balance, supply, lastBlock, ticket, freeTi
 use Rattle.model.specs.Calls.{accept, refuse, above, below, outside, unfilled, notAvailable, boundMissed, bidQuote, bidRound, depositOf, depositDone, withdrawOf, withdrawDone, orderOf, orderDone, cancelOf, cancelDone, openOf, openDone, enterOf, enterWith, enterDone, matchOf, matchDone, bidOf, bidDone, settleOf, settleDone, claimedRound, payingOrClosed, claimOf, claimWith, claimDone}
 use Rattle.model.specs.Bounds.{Bounded, TicketBounds, shareIn, gotIn}
 use Rattle.model.specs.Parts.{bankForm, orderForm, cancelForm, openForm, ticketForm, marketForm, bidForm, formOf, byForm, marketIn, memberIn, supplyAt, residueAt, ticketAt, unbanked, depositedOn, depositOn, withdrawnOn, withdrawOn, putBanked, unplaced, orderFrom, orderedOn, orderOn, cancelledOn, cancelOn, putPlaced, unmoved, openedOn, openOn, matchedOn, matchOn, settledOn, settleOn, putMoved, unjoined, enteredOn, enterOn, putJoined, untraded, tradedOn, bidOn, putTraded, unclaimed, paidOn, claimOn, putClaimed}
-
 use Rattle.model.proofs.Frames.{inside}
 
 -- ---- forms
@@ -143,8 +142,8 @@ module _ (x : Exchange) (m t : ℕ) where
       let row : Row = rowOf (x .ledger) m in
       let us : List (Test Refusal) = when (above (supply x t + n) largest) SupplyExceeded ∷ [] in
       on-form x (bankForm m t n) us (depositDone x m t n) _ (λ f.
-        sym (decide-carried (putBanked x m t) (unbanked row (supplyAt x t)) (depositedOn row (supplyAt x t) t n) (refuse x) (depositDone x m t n) us bank-back
-        (λ p. rw (balance-row (x .ledger) m t, credited-row (x .ledger) m t n))))
+      sym (decide-carried (putBanked x m t) (unbanked row (supplyAt x t)) (depositedOn row (supplyAt x t) t n) (refuse x) (depositDone x m t n) us bank-back
+      (λ p. rw (balance-row (x .ledger) m t, credited-row (x .ledger) m t n))))
 
   pub withdraw-on : (n : ℕ) → withdrawOf x m t n ≡ byForm (formOf (bankForm m t n)) (refuse x) (putBanked x m t (withdrawOn (rowOf (x .ledger) m) (supplyAt x t) t n))
   unfolding withdrawOf withdrawOn
@@ -153,8 +152,8 @@ module _ (x : Exchange) (m t : ℕ) where
       let us : List (Test Refusal) = when (below (cellOf row t) n) InsufficientBalance ∷ [] in
       rw (balance-row (x .ledger) m t)
       (on-form x (bankForm m t n) us _ _ (λ f.
-        sym (decide-carried (putBanked x m t) (unbanked row (supplyAt x t)) (withdrawnOn row (supplyAt x t) t n) (refuse x) _ us bank-back
-        (λ p. rw (debited-row (x .ledger) m t n)))))
+      sym (decide-carried (putBanked x m t) (unbanked row (supplyAt x t)) (withdrawnOn row (supplyAt x t) t n) (refuse x) _ us bank-back
+      (λ p. rw (debited-row (x .ledger) m t n)))))
 
 -- ---- 3, 4
 
@@ -172,8 +171,8 @@ module _ (x : Exchange) (m k : ℕ) where
       let us : List (Test Refusal) = when (not (isFree (ticket x k))) TicketInUse ∷ when (below (cellOf row token) n) InsufficientBalance ∷ [] in
       rw (balance-row (x .ledger) m token)
       (on-form x (orderForm k m market side limit n) us (orderDone x k m market side limit n) _ (λ f.
-        sym (decide-carried (putPlaced x m k) (unplaced row (ticketAt x k)) (orderedOn row (orderFrom m market side limit n)) (refuse x) (orderDone x k m market side limit n) us place-back
-        (λ p. rw (debited-row (x .ledger) m token n)))))
+      sym (decide-carried (putPlaced x m k) (unplaced row (ticketAt x k)) (orderedOn row (orderFrom m market side limit n)) (refuse x) (orderDone x k m market side limit n) us place-back
+      (λ p. rw (debited-row (x .ledger) m token n)))))
 
   pub cancel-on : cancelOf x k m ≡ byForm (formOf (cancelForm k m)) (refuse x) (putPlaced x m k (cancelOn (rowOf (x .ledger) m) (ticketAt x k) m))
   unfolding cancelOf cancelOn
@@ -182,9 +181,9 @@ module _ (x : Exchange) (m k : ℕ) where
       let o : Order = orderIn (ticket x k) in
       let us : List (Test Refusal) = when (isFree (ticket x k) || not (eqb (o .member) m)) NoSuchOrder ∷ when (isEntered (ticket x k)) WrongTicketState ∷ [] in
       on-form x (cancelForm k m) us (cancelDone x k) _ (λ f.
-        sym (decide-carried (putPlaced x m k) (unplaced row (ticketAt x k)) (cancelledOn row o) (refuse x) (cancelDone x k) us place-back (λ p.
-          let own : o .member ≡ m = eqb-true (o .member) m (not-false _ (or-false (isFree (ticket x k)) (not (eqb (o .member) m)) (p .0) .1)) in
-          sym (ap (λ (l : Ledger). putLedger x k l (o .offer .0)) (ap (λ (j : ℕ). credited (x .ledger) j (offered (o .side) (o .market)) (o .offer .0)) own ∙ credited-row (x .ledger) m (offered (o .side) (o .market)) (o .offer .0))))))
+      sym (decide-carried (putPlaced x m k) (unplaced row (ticketAt x k)) (cancelledOn row o) (refuse x) (cancelDone x k) us place-back (λ p.
+      let own : o .member ≡ m = eqb-true (o .member) m (not-false _ (or-false (isFree (ticket x k)) (not (eqb (o .member) m)) (p .0) .1)) in
+      sym (ap (λ (l : Ledger). putLedger x k l (o .offer .0)) (ap (λ (j : ℕ). credited (x .ledger) j (offered (o .side) (o .market)) (o .offer .0)) own ∙ credited-row (x .ledger) m (offered (o .side) (o .market)) (o .offer .0))))))
     where
       putLedger : Exchange → ℕ → Ledger → ℕ → Outcome
       putLedger x k l n =
@@ -205,7 +204,7 @@ module _ (x : Exchange) (n at : ℕ) where
   open-on r w len =
       let us : List (Test Refusal) = when (not (isClosed (phase x n))) WrongPhase ∷ when (below at (lastBlock x)) StaleBlock ∷ [] in
       on-form x (openForm n r w len) us (openDone x n at r w len) _ (λ f.
-        sym (decide-carried (putMoved x n) (unmoved (marketAt (x .markets) n) (x .last)) (openedOn at r w len) (refuse x) (openDone x n at r w len) us move-back (λ p. refl)))
+      sym (decide-carried (putMoved x n) (unmoved (marketAt (x .markets) n) (x .last)) (openedOn at r w len) (refuse x) (openDone x n at r w len) us move-back (λ p. refl)))
 
   pub match-on : matchOf x n at ≡ byForm (formOf (marketForm n)) (refuse x) (putMoved x n (matchOn (marketAt (x .markets) n) (x .last) at))
   unfolding matchOf matchOn
@@ -213,7 +212,7 @@ module _ (x : Exchange) (n at : ℕ) where
       let r : Round = roundIn (phase x n) in
       let us : List (Test Refusal) = when (not (isCollect (phase x n))) WrongPhase ∷ when (below at (lastBlock x)) StaleBlock ∷ when (below at (r .opened .0 + 4)) TooEarly ∷ [] in
       on-form x (marketForm n) us (matchDone x n at) _ (λ f.
-        sym (decide-carried (putMoved x n) (unmoved (marketAt (x .markets) n) (x .last)) (matchedOn r at) (refuse x) (matchDone x n at) us move-back (λ p. refl)))
+      sym (decide-carried (putMoved x n) (unmoved (marketAt (x .markets) n) (x .last)) (matchedOn r at) (refuse x) (matchDone x n at) us move-back (λ p. refl)))
 
   pub settle-on : settleOf x n at ≡ byForm (formOf (marketForm n)) (refuse x) (putMoved x n (settleOn (marketAt (x .markets) n) (x .last) at))
   unfolding settleOf settleOn
@@ -225,7 +224,7 @@ module _ (x : Exchange) (n at : ℕ) where
       ∷ when ((unfilled (r .buys) || unfilled (r .sells)) && not (above at (r .start .0 + r .length))) TooEarly
       ∷ [] in
       on-form x (marketForm n) us (settleDone x n at) _ (λ f.
-        sym (decide-carried (putMoved x n) (unmoved (marketAt (x .markets) n) (x .last)) (settledOn r at) (refuse x) (settleDone x n at) us move-back (λ p. refl)))
+      sym (decide-carried (putMoved x n) (unmoved (marketAt (x .markets) n) (x .last)) (settledOn r at) (refuse x) (settleDone x n at) us move-back (λ p. refl)))
 
 -- ---- 6
 
@@ -293,8 +292,8 @@ module _ (x : Exchange) (n m at : ℕ) (z : Shaped (x .ledger)) where
       ∷ [] in
       rw (balance-row (x .ledger) m (wanted s n))
       (on-form x (bidForm n m side base) us (bidDone x n m at side base) _ (λ f.
-        sym (decide-carried (putTraded x n m) (untraded (marketAt (x .markets) n) row (x .last)) (tradedOn r row n at s base q) (refuse x) (bidDone x n m at side base) us trade-back
-        (λ p. sym (ap (traded x n at r s base q) (row-twice (omega (arith, ltb-false 15 m (f .0))) (wanted s n) (offered s n) (gives s base q) (takes s base q)))))))
+      sym (decide-carried (putTraded x n m) (untraded (marketAt (x .markets) n) row (x .last)) (tradedOn r row n at s base q) (refuse x) (bidDone x n m at side base) us trade-back
+      (λ p. sym (ap (traded x n at r s base q) (row-twice (omega (arith, ltb-false 15 m (f .0))) (wanted s n) (offered s n) (gives s base q) (takes s base q)))))))
     where
       traded : Exchange → ℕ → ℕ → Round → Side → ℕ → ℕ → Ledger → Outcome
       traded x n at r s base q l =
@@ -390,4 +389,4 @@ pub claim-on : (x : Exchange) → Bounded x → (k : ℕ)
 unfolding claimOf claimRest
 claim-on x b k =
     on-form x (ticketForm k) (claimRest (ticket x k) (phase x (orderIn (ticket x k) .market))) (claimDone x k) _ (λ f.
-      claim-ticket x k (ticket x k) refl (b .ticket-bounds k (omega (arith, ltb-false 63 k (f .0)))))
+    claim-ticket x k (ticket x k) refl (b .ticket-bounds k (omega (arith, ltb-false 63 k (f .0)))))

@@ -8,7 +8,7 @@ use Rattle.units.proofs.Sums.{only-same, only-other}
 use Rattle.pricing.specs.declared.Side.{Side}
 use Rattle.pricing.specs.declared.Side.the-variants.{Buy, Sell}
 use Rattle.ledger.specs.Balances.{cellOf, rowOf}
-use Rattle.ledger.proofs.Laws.{balance-row}
+use Rattle.ledger.proofs.Laws.{balance-row, row-shaped}
 use Rattle.model.specs.declared.state.Order.{Order}
 use Rattle.model.specs.declared.state.TicketState.{TicketState}
 use Rattle.model.specs.declared.state.TicketState.the-variants.{Free, Resting, Entered}
@@ -98,6 +98,7 @@ module _ (x : Exchange) (b : Bounded x) where
         auction = p .1;
         started = omega (arith, b .started n pos h, ap (λ (q : Phase). roundIn q .start .0) e);
         market = h;
+        cells = row-shaped (x .ledger) m (b .rows) hm;
         beside = λ side. omega (arith, beside m n hm pos h side, ap (λ (q : Phase). heldIn (roundIn q) side) e);
       }
 

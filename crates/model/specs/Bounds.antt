@@ -153,12 +153,13 @@ EnterBounds t market =
 abbrev pub MatchBounds : Market → Type 0
 MatchBounds market = (r : Round) → market .phase ≡ Collect r → 0 < r .reference .0
 
--- bid: in auction, from its match on, what a round holds fits beside any balance
+-- bid: in auction, from its match on, what a round holds fits beside any balance; the maker's row has its four cells
 pub record BidBounds (r : Round) (row : Row) (last : Block) (number : ℕ) : Type 0 where
   pub round : RoundBounds r
   pub auction : AuctionBounds r
   pub started : r .start .0 ≤ last .0
   pub market : number < 4
+  pub cells : length (row .cells) ≡ 4
   pub beside : (side : Side) → cellOf row (offered side number) + heldIn r side ≤ largest
 
 -- claim: the round covers it, and what the round holds fits beside any balance and the residue

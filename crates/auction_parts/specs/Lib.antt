@@ -1,0 +1,2 @@
+-- Definitions that the contracts of the private functions cite.
+pub mod Steps

@@ -1,0 +1,24 @@
+-- `forms::call::bank_form` meets its contract.
+use Rattle.units.proofs.Tests.{tests}
+use Rattle.model.specs.Parts.{formOf}
+use Rattle.forms.proofs.call.bank_form.Statement.{statement}
+use Rattle.forms.proofs.call.bank_form.Tie as tie
+
+returns : tie.Need-returns
+unfolding formOf
+returns c = search tests
+
+returns-2 : tie.Need-returns-2
+unfolding formOf
+returns-2 c = search tests
+
+returns-3 : tie.Need-returns-3
+unfolding formOf
+returns-3 c = search tests
+
+returns-4 : tie.Need-returns-4
+unfolding formOf
+returns-4 c = search tests
+
+pub bank-form-spec : {M : Type 1} → statement M
+bank-form-spec = tie.close (tie.spec returns returns-2 returns-3 returns-4)

@@ -1,0 +1,55 @@
+-- `forms::call::order_form` meets its contract.
+use Rattle.units.proofs.Tests.{tests}
+use Rattle.model.specs.Parts.{formOf}
+use Rattle.forms.proofs.call.order_form.Statement.{statement}
+use Rattle.forms.proofs.call.order_form.Tie as tie
+
+returns : tie.Need-returns
+unfolding formOf
+returns c = search tests
+
+returns-2 : tie.Need-returns-2
+unfolding formOf
+returns-2 c = search tests
+
+returns-3 : tie.Need-returns-3
+unfolding formOf
+returns-3 c = search tests
+
+returns-4 : tie.Need-returns-4
+unfolding formOf
+returns-4 c = search tests
+
+returns-5 : tie.Need-returns-5
+unfolding formOf
+returns-5 c = search tests
+
+returns-6 : tie.Need-returns-6
+unfolding formOf
+returns-6 c = search tests
+
+returns-7 : tie.Need-returns-7
+unfolding formOf
+returns-7 c = search tests
+
+returns-8 : tie.Need-returns-8
+unfolding formOf
+returns-8 c = search tests
+
+returns-9 : tie.Need-returns-9
+unfolding formOf
+returns-9 c = search tests
+
+pub order-form-spec : {M : Type 1} → statement M
+order-form-spec =
+    tie.close
+    (tie.spec
+    returns
+    returns-2
+    returns-3
+    returns-4
+    returns-5
+    returns-6
+    returns-7
+    returns-8
+    returns-9)

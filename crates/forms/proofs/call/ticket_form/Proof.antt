@@ -1,0 +1,16 @@
+-- `forms::call::ticket_form` meets its contract.
+use Rattle.units.proofs.Tests.{tests}
+use Rattle.model.specs.Parts.{formOf}
+use Rattle.forms.proofs.call.ticket_form.Statement.{statement}
+use Rattle.forms.proofs.call.ticket_form.Tie as tie
+
+returns : tie.Need-returns
+unfolding formOf
+returns c = search tests
+
+returns-2 : tie.Need-returns-2
+unfolding formOf
+returns-2 c = search tests
+
+pub ticket-form-spec : {M : Type 1} → statement M
+ticket-form-spec = tie.close (tie.spec returns returns-2)

@@ -1,0 +1,59 @@
+// Parts of the state by their place. Public for the crates above, which ask for a place that there is.
+ghost use mathlib.Core.Path.{_≡_};
+ghost use Prim.Native.Nat.{_<_};
+ghost use Rattle.model.specs.State.{marketAt};
+ghost use Rattle.model.specs.Calls.{refuse};
+ghost use Rattle.model.specs.Parts.{supplyAt, residueAt, ticketAt};
+use model::answer::Answer;
+use model::answer::Outcome;
+use model::answer::Refusal;
+use model::state::Exchange;
+use model::state::Market;
+use model::state::Ticket;
+use units::Amount;
+
+// A token's supply.
+pub fn supply_at(x: Exchange, token: u32) -> Amount
+    requires { ⌜ token < 4 ⌝ }
+    ensures { λ r. ⌜ r ≡ supplyAt x token ⌝ }
+{
+    let t = token as usize;
+    x.supply[t]
+}
+
+// A token's residue.
+pub fn residue_at(x: Exchange, token: u32) -> Amount
+    requires { ⌜ token < 4 ⌝ }
+    ensures { λ r. ⌜ r ≡ residueAt x token ⌝ }
+{
+    let t = token as usize;
+    x.residue[t]
+}
+
+// A ticket.
+pub fn ticket_at(x: Exchange, ticket: u32) -> Ticket
+    requires { ⌜ ticket < 64 ⌝ }
+    ensures { λ r. ⌜ r ≡ ticketAt x ticket ⌝ }
+{
+    let k = ticket as usize;
+    x.tickets[k]
+}
+
+// One of the markets 1 to 3.
+pub fn market_at(x: Exchange, market: u32) -> Market
+    requires { ⌜ (0 < market) × (market < 4) ⌝ }
+    ensures { λ r. ⌜ r ≡ marketAt (x .markets) market ⌝ }
+{
+    let n = (market - 1) as usize;
+    x.markets[n]
+}
+
+// A refusal leaves the state.
+pub fn refused(x: Exchange, why: Refusal) -> Outcome
+    ensures { λ r. ⌜ r ≡ refuse x why ⌝ }
+{
+    Outcome {
+        answer: Answer::Refused(why),
+        exchange: x,
+    }
+}

@@ -1,0 +1,68 @@
+-- `rounds_parts::match_round` meets its contract.
+use mathlib.Core.Path.{sym, ap, _∙_}
+use borrow.Author.Needs.{needs}
+use Rattle.model.specs.State.{isCollect}
+use Rattle.rounds_parts.proofs.Laws.{match-wrong-phase}
+use Rattle.rounds_parts.proofs.match_round.Statement.{statement}
+use Rattle.rounds_parts.proofs.match_round.Tie as tie
+
+enum-told : tie.Need-enum-told
+enum-told c = search needs
+
+unmoved-market-requires : tie.Need-unmoved-market-requires
+unmoved-market-requires c κs = search needs
+
+enum-known-phase : tie.Need-enum-known-phase
+enum-known-phase c = search needs
+
+match-collected-requires : tie.Need-match-collected-requires
+match-collected-requires c κs =
+    let e = c .before .phase .given .1 in
+    (e, c .before .before .before .pre _ e)
+
+enum-told-2 : tie.Need-enum-told-2
+enum-told-2 c = search needs
+
+unmoved-market-requires-2 : tie.Need-unmoved-market-requires-2
+unmoved-market-requires-2 c κs = search needs
+
+enum-told-3 : tie.Need-enum-told-3
+enum-told-3 c = search needs
+
+unmoved-market-requires-3 : tie.Need-unmoved-market-requires-3
+unmoved-market-requires-3 c κs = search needs
+
+returns : tie.Need-returns
+returns c =
+    let a = c .before .before .before .args in
+    c .unmoved-market .ensures ∙ sym (match-wrong-phase (a .market) (a .last) (a .block) (ap isCollect (c .before .enum-told .given .1)))
+
+returns-2 : tie.Need-returns-2
+returns-2 c = search needs
+
+returns-3 : tie.Need-returns-3
+returns-3 c =
+    let a = c .before .before .before .args in
+    c .unmoved-market2 .ensures ∙ sym (match-wrong-phase (a .market) (a .last) (a .block) (ap isCollect (c .before .enum-told2 .given .1)))
+
+returns-4 : tie.Need-returns-4
+returns-4 c =
+    let a = c .before .before .before .args in
+    c .unmoved-market3 .ensures ∙ sym (match-wrong-phase (a .market) (a .last) (a .block) (ap isCollect (c .before .enum-told3 .given .1)))
+
+pub match-round-spec : {M : Type 1} → statement M
+match-round-spec =
+    tie.close
+    (tie.spec
+    enum-told
+    unmoved-market-requires
+    enum-known-phase
+    match-collected-requires
+    enum-told-2
+    unmoved-market-requires-2
+    enum-told-3
+    unmoved-market-requires-3
+    returns
+    returns-2
+    returns-3
+    returns-4)

@@ -1,0 +1,55 @@
+-- `rounds_parts::open` meets its contract.
+use mathlib.Core.Path.{sym, ap₂, _∙_}
+use native.Mathlib.Omega.{arith}
+use borrow.Author.Needs.{needs}
+use borrow.Author.Tests.{not-true, not-false}
+use Rattle.rounds_parts.proofs.Laws.{openedWith, open-wrong-phase, open-stale, open-done}
+use Rattle.rounds_parts.proofs.open.Statement.{statement}
+use Rattle.rounds_parts.proofs.open.Tie as tie
+
+is-closed-requires : tie.Need-is-closed-requires
+is-closed-requires c κs = search needs
+
+unmoved-market-requires : tie.Need-unmoved-market-requires
+unmoved-market-requires c κs = search needs
+
+returns : tie.Need-returns
+returns c =
+    let a = c .before .before .before .args in
+    let e = sym (c .before .before .is-closed .ensures) ∙ not-true _ (c .before .if1 .taken) in
+    c .unmoved-market .ensures ∙ sym (open-wrong-phase (a .market) (a .last) (a .block) (a .reference) (a .slack) (a .length) e)
+
+unmoved-market-requires-2 : tie.Need-unmoved-market-requires-2
+unmoved-market-requires-2 c κs = search needs
+
+returns-2 : tie.Need-returns-2
+returns-2 c =
+    let a = c .before .before .before .before .before .args in
+    let e = sym (c .before .before .before .before .is-closed .ensures) ∙ not-false _ (c .before .before .before .if1 .left) in
+    c .unmoved-market2 .ensures ∙ sym (open-stale (a .market) (a .last) (a .block) (a .reference) (a .slack) (a .length) e (omega arith))
+
+high-bound-requires : tie.Need-high-bound-requires
+high-bound-requires c κs = search needs
+
+low-bound-requires : tie.Need-low-bound-requires
+low-bound-requires c κs = search needs
+
+returns-3 : tie.Need-returns-3
+returns-3 c =
+    let a = c .before .before .before .before .before .before .args in
+    let e = sym (c .before .before .before .before .before .is-closed .ensures) ∙ not-false _ (c .before .before .before .before .if1 .left) in
+    ap₂ (openedWith (a .block) (a .reference) (a .length)) (c .before .high-bound .ensures) (c .low-bound .ensures)
+    ∙ sym (open-done (a .market) (a .last) (a .block) (a .reference) (a .slack) (a .length) e (omega arith))
+
+pub open-spec : {M : Type 1} → statement M
+open-spec =
+    tie.close
+    (tie.spec
+    is-closed-requires
+    unmoved-market-requires
+    returns
+    unmoved-market-requires-2
+    returns-2
+    high-bound-requires
+    low-bound-requires
+    returns-3)

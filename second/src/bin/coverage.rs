@@ -1,0 +1,526 @@
+//! Reads call lines from standard input, works them and prints how often
+//! each kind of call met each code (kind 0 for lines that are no call), the
+//! pairs that can occur but didn't, and how often certain borders were met.
+//! After each call it checks that no amount came up or went missing.
+
+use second::engine::bid_quote;
+use second::{read_call, Answer, Call, Exchange, Market, Phase, Place};
+use std::collections::BTreeMap;
+use std::io::{self, BufRead, BufReader, Write};
+use std::process::ExitCode;
+
+const MOST: u64 = 4_294_967_295;
+const MILLION: u64 = 1_000_000;
+
+/// The codes that a kind can meet.
+const CODES: [&[usize]; 11] = [
+    &[20],
+    &[0, 1, 2, 6, 14],
+    &[0, 1, 2, 6, 19],
+    &[0, 1, 3, 4, 5, 6, 7, 19],
+    &[0, 1, 4, 8, 9],
+    &[0, 3, 10, 11, 12],
+    &[0, 4, 8, 9, 11, 15],
+    &[0, 3, 11, 12, 13],
+    &[0, 1, 3, 5, 6, 11, 12, 16, 17, 18, 19],
+    &[0, 3, 11, 12, 13],
+    &[0, 4, 8, 9, 11],
+];
+
+/// Every border that is counted, so that those not met show as 0.
+const BORDERS: &[&str] = &[
+    "line: empty",
+    "line: 80 bytes",
+    "line: 81 bytes",
+    "line: above 81 bytes",
+    "line: above 4096 bytes",
+    "line: NUL",
+    "line: CR at its end",
+    "line: last without byte 10",
+    "line: call followed by a bad byte",
+    "member 0 taken",
+    "member 15 taken",
+    "member 16 refused",
+    "token 3 taken",
+    "token 4 refused",
+    "market 0 refused",
+    "market 3 taken",
+    "market 4 refused",
+    "ticket 0 taken",
+    "ticket 63 taken",
+    "ticket 64 refused",
+    "side 2 refused",
+    "limit 1 taken",
+    "limit 2000000000 taken",
+    "limit 2000000001 refused",
+    "deposit: supply to the most",
+    "deposit: one above the most",
+    "withdraw: balance met",
+    "withdraw: balance missed by 1",
+    "order: balance met",
+    "order: balance missed by 1",
+    "order: all 64 tickets in use after",
+    "cancel: of a rest",
+    "cancel: another's ticket in a round",
+    "open: r 1",
+    "open: r 1000000000",
+    "open: r 1000000001 refused",
+    "open: w 0",
+    "open: w 500000",
+    "open: w 500001 refused",
+    "open: L 1",
+    "open: L 64",
+    "open: L 65 refused",
+    "open: block as the last",
+    "open: last block minus 1 refused",
+    "open: last possible block",
+    "enter: buy limit at hi",
+    "enter: buy limit at hi - 1 refused",
+    "enter: sell limit at lo",
+    "enter: sell limit at lo + 1 refused",
+    "enter: a rest of an earlier round",
+    "enter: side total above 4000000000",
+    "match: 4 blocks after open",
+    "match: 3 blocks after open refused",
+    "match: dropped",
+    "match: three or more tickets each side",
+    "match: above 2000000000",
+    "bid: side 0",
+    "bid: side 1",
+    "bid: k 0",
+    "bid: k L",
+    "bid: k L + 1 refused",
+    "bid: k between",
+    "bid: side 0 bound met",
+    "bid: side 0 bound missed by 1",
+    "bid: side 1 bound met",
+    "bid: side 1 bound missed by 1",
+    "bid: side 0 balance met",
+    "bid: side 0 balance missed by 1",
+    "bid: side 1 balance met",
+    "bid: side 1 balance missed by 1",
+    "bid: side 0 all quote left",
+    "bid: side 0 one more than left refused",
+    "bid: side 0 quote 0 refused",
+    "bid: side 1 all base left",
+    "bid: side 1 one more than left refused",
+    "bid: side 1 cost above the most refused",
+    "bid: maker owns a ticket in the round",
+    "bid: both sides in one round",
+    "settle: k L with some left refused",
+    "settle: k L + 1 with some left",
+    "settle: nothing left before the end",
+    "settle: no tickets",
+    "claim: nothing sold",
+    "claim: part sold",
+    "claim: all sold",
+    "claim: pays and gets nothing",
+    "claim: above 2000000000",
+    "claim: last of its round",
+    "claim: last, quote to the tray",
+    "claim: last, base to the tray",
+];
+
+#[derive(Default)]
+struct Counts {
+    borders: BTreeMap<&'static str, u64>,
+    /// One bit for each ticket that holds the rest of an earlier round.
+    rests: u64,
+    /// By market, the sides that makers took in this round.
+    bids: [[bool; 2]; 3],
+}
+
+impl Counts {
+    fn add_if(&mut self, holds: bool, name: &'static str) {
+        if holds {
+            *self.borders.entry(name).or_insert(0) += 1;
+        }
+    }
+
+    fn line(&mut self, line: &[u8], call: Option<Call>, ended: bool) {
+        self.add_if(!ended, "line: last without byte 10");
+        if call.is_some() {
+            return;
+        }
+        self.add_if(line.is_empty(), "line: empty");
+        self.add_if(line.len() == 80, "line: 80 bytes");
+        self.add_if(line.len() == 81, "line: 81 bytes");
+        self.add_if(line.len() > 81, "line: above 81 bytes");
+        self.add_if(line.len() > 4096, "line: above 4096 bytes");
+        self.add_if(line.contains(&0), "line: NUL");
+        self.add_if(line.last() == Some(&b'\r'), "line: CR at its end");
+        if let [before @ .., last] = line {
+            let bad = !last.is_ascii_digit() && *last != b',';
+            self.add_if(bad && read_call(before).is_some(), "line: call followed by a bad byte");
+        }
+    }
+
+    fn member(&mut self, member: u32, code: u8) {
+        self.add_if(code == 0 && member == 0, "member 0 taken");
+        self.add_if(code == 0 && member == 15, "member 15 taken");
+        self.add_if(code == 1 && member == 16, "member 16 refused");
+    }
+
+    fn market(&mut self, market: u32, code: u8) {
+        self.add_if(code == 3 && market == 0, "market 0 refused");
+        self.add_if(code == 0 && market == 3, "market 3 taken");
+        self.add_if(code == 3 && market == 4, "market 4 refused");
+    }
+
+    fn ticket(&mut self, ticket: u32, code: u8) {
+        self.add_if(code == 0 && ticket == 0, "ticket 0 taken");
+        self.add_if(code == 0 && ticket == 63, "ticket 63 taken");
+        self.add_if(code == 4 && ticket == 64, "ticket 64 refused");
+    }
+
+    /// Looks at a call, its answer, and the exchange before and after it.
+    fn call(&mut self, was: &Exchange, is: &Exchange, call: Call, answer: Answer) {
+        let code = answer.code;
+        let taken = code == 0;
+        let last = u64::from(was.last_block());
+        match call {
+            Call::Deposit { member, token, amount } => {
+                self.member(member, code);
+                self.add_if(taken && token == 3, "token 3 taken");
+                self.add_if(code == 2 && token == 4, "token 4 refused");
+                if taken || code == 14 {
+                    let sum = was.supply()[token as usize] + u64::from(amount);
+                    self.add_if(sum == MOST, "deposit: supply to the most");
+                    self.add_if(sum == MOST + 1, "deposit: one above the most");
+                }
+            }
+            Call::Withdraw { member, token, amount } => {
+                self.member(member, code);
+                self.add_if(taken && token == 3, "token 3 taken");
+                self.add_if(code == 2 && token == 4, "token 4 refused");
+                if taken || code == 19 {
+                    let balance = was.balances()[member as usize][token as usize];
+                    let amount = u64::from(amount);
+                    self.add_if(amount == balance, "withdraw: balance met");
+                    self.add_if(amount == balance + 1, "withdraw: balance missed by 1");
+                }
+            }
+            Call::Order { ticket, member, market, side, limit, amount } => {
+                self.member(member, code);
+                self.market(market, code);
+                self.ticket(ticket, code);
+                self.add_if(code == 5 && side == 2, "side 2 refused");
+                self.add_if(taken && limit == 1, "limit 1 taken");
+                self.add_if(taken && limit == 2_000_000_000, "limit 2000000000 taken");
+                let high = code == 6 && amount > 0 && limit == 2_000_000_001;
+                self.add_if(high, "limit 2000000001 refused");
+                if taken || code == 19 {
+                    let token = if side == 0 { 0 } else { market as usize };
+                    let balance = was.balances()[member as usize][token];
+                    let amount = u64::from(amount);
+                    self.add_if(amount == balance, "order: balance met");
+                    self.add_if(amount == balance + 1, "order: balance missed by 1");
+                }
+                if taken {
+                    self.rests &= !(1 << ticket);
+                    let full = is.tickets().iter().all(|t| t.place != Place::Free);
+                    self.add_if(full, "order: all 64 tickets in use after");
+                }
+            }
+            Call::Cancel { ticket, member } => {
+                self.member(member, code);
+                self.ticket(ticket, code);
+                if taken {
+                    self.add_if(self.rests >> ticket & 1 == 1, "cancel: of a rest");
+                }
+                if code == 8 {
+                    let in_round = was.tickets()[ticket as usize].place == Place::Round;
+                    self.add_if(in_round, "cancel: another's ticket in a round");
+                }
+            }
+            Call::Open { market, block, reference, slack, length } => {
+                self.market(market, code);
+                self.add_if(taken && reference == 1, "open: r 1");
+                self.add_if(taken && reference == 1_000_000_000, "open: r 1000000000");
+                let refused = code == 10;
+                self.add_if(refused && reference == 1_000_000_001, "open: r 1000000001 refused");
+                self.add_if(taken && slack == 0, "open: w 0");
+                self.add_if(taken && slack == 500_000, "open: w 500000");
+                self.add_if(refused && slack == 500_001, "open: w 500001 refused");
+                self.add_if(taken && length == 1, "open: L 1");
+                self.add_if(taken && length == 64, "open: L 64");
+                self.add_if(refused && length == 65, "open: L 65 refused");
+                let block = u64::from(block);
+                self.add_if(taken && block == last, "open: block as the last");
+                let early = code == 12 && block + 1 == last;
+                self.add_if(early, "open: last block minus 1 refused");
+                self.add_if(taken && block == MOST, "open: last possible block");
+                if taken {
+                    self.bids[market as usize - 1] = [false; 2];
+                }
+            }
+            Call::Enter { ticket } => {
+                self.ticket(ticket, code);
+                if taken || code == 15 {
+                    let held = was.tickets()[ticket as usize];
+                    let round = was.markets()[held.market as usize - 1];
+                    let limit = u64::from(held.limit);
+                    if held.side == 0 {
+                        self.add_if(limit == round.hi, "enter: buy limit at hi");
+                        self.add_if(limit + 1 == round.hi, "enter: buy limit at hi - 1 refused");
+                    } else {
+                        self.add_if(limit == round.lo, "enter: sell limit at lo");
+                        self.add_if(limit == round.lo + 1, "enter: sell limit at lo + 1 refused");
+                    }
+                }
+                if taken {
+                    let rest = self.rests >> ticket & 1 == 1;
+                    self.add_if(rest, "enter: a rest of an earlier round");
+                    self.add_if(answer.first > 4_000_000_000, "enter: side total above 4000000000");
+                }
+            }
+            Call::Match { market, block } => {
+                self.market(market, code);
+                if taken || code == 13 {
+                    let round = was.markets()[market as usize - 1];
+                    let since = block - round.opened;
+                    self.add_if(since == 4, "match: 4 blocks after open");
+                    self.add_if(since == 3, "match: 3 blocks after open refused");
+                    if taken {
+                        let [buys, sells] = round.halves;
+                        let base = sells.total.min(buys.total * MILLION / round.reference);
+                        self.add_if(base > 0 && answer.first == 0, "match: dropped");
+                        let mut tickets = [0; 2];
+                        for (place, held) in was.tickets().iter().enumerate() {
+                            if round.marks >> place & 1 == 1 {
+                                tickets[held.side as usize] += 1;
+                            }
+                        }
+                        let many = tickets[0] >= 3 && tickets[1] >= 3;
+                        self.add_if(many, "match: three or more tickets each side");
+                        let large = answer.first > 2_000_000_000 && answer.second > 2_000_000_000;
+                        self.add_if(large, "match: above 2000000000");
+                    }
+                }
+            }
+            Call::Bid { market, member, block, side, base, bound } => {
+                self.member(member, code);
+                self.market(market, code);
+                self.add_if(code == 5 && side == 2, "side 2 refused");
+                if !taken && code < 16 {
+                    return;
+                }
+                let round = was.markets()[market as usize - 1];
+                let k = block - round.start;
+                self.add_if(code == 16 && k == round.length + 1, "bid: k L + 1 refused");
+                if code == 16 {
+                    return;
+                }
+                let quote = bid_quote(side, base, round.price(side, k));
+                let left = round.halves[side as usize].left();
+                let base = u64::from(base);
+                let bound = u64::from(bound);
+                let balances = was.balances()[member as usize];
+                if side == 0 {
+                    let met = quote == bound && taken;
+                    self.add_if(met, "bid: side 0 bound met");
+                    let missed = quote + 1 == bound && code == 18;
+                    self.add_if(missed, "bid: side 0 bound missed by 1");
+                    let balance = balances[market as usize];
+                    self.add_if(taken && balance == base, "bid: side 0 balance met");
+                    let missed = code == 19 && balance + 1 == base;
+                    self.add_if(missed, "bid: side 0 balance missed by 1");
+                    self.add_if(taken && quote == left, "bid: side 0 all quote left");
+                    let above = code == 17 && quote == left + 1;
+                    self.add_if(above, "bid: side 0 one more than left refused");
+                    self.add_if(code == 17 && quote == 0, "bid: side 0 quote 0 refused");
+                } else {
+                    let met = quote == bound && taken;
+                    self.add_if(met, "bid: side 1 bound met");
+                    let missed = quote == bound + 1 && code == 18;
+                    self.add_if(missed, "bid: side 1 bound missed by 1");
+                    self.add_if(taken && balances[0] == quote, "bid: side 1 balance met");
+                    let missed = code == 19 && balances[0] + 1 == quote;
+                    self.add_if(missed, "bid: side 1 balance missed by 1");
+                    self.add_if(taken && base == left, "bid: side 1 all base left");
+                    let above = code == 17 && base == left + 1;
+                    self.add_if(above, "bid: side 1 one more than left refused");
+                    let above = code == 18 && quote > MOST;
+                    self.add_if(above, "bid: side 1 cost above the most refused");
+                }
+                if taken {
+                    self.add_if(side == 0, "bid: side 0");
+                    self.add_if(side == 1, "bid: side 1");
+                    self.add_if(k == 0, "bid: k 0");
+                    self.add_if(k == round.length, "bid: k L");
+                    self.add_if(k > 0 && k < round.length, "bid: k between");
+                    let owns = was.tickets().iter().any(|held| {
+                        held.place == Place::Round && held.market == market && held.member == member
+                    });
+                    self.add_if(owns, "bid: maker owns a ticket in the round");
+                    self.bids[market as usize - 1][side as usize] = true;
+                }
+            }
+            Call::Settle { market, block } => {
+                self.market(market, code);
+                if !taken && code != 13 {
+                    return;
+                }
+                let round = was.markets()[market as usize - 1];
+                let k = block - round.start;
+                let some = round.halves[0].left() + round.halves[1].left() > 0;
+                let at_end = code == 13 && k == round.length;
+                self.add_if(at_end, "settle: k L with some left refused");
+                let after = taken && some && k == round.length + 1;
+                self.add_if(after, "settle: k L + 1 with some left");
+                let done = taken && !some && k <= round.length && round.marks != 0;
+                self.add_if(done, "settle: nothing left before the end");
+                self.add_if(taken && round.marks == 0, "settle: no tickets");
+                if taken {
+                    let both = self.bids[market as usize - 1] == [true; 2];
+                    self.add_if(both, "bid: both sides in one round");
+                }
+            }
+            Call::Claim { ticket } => {
+                self.ticket(ticket, code);
+                if !taken {
+                    return;
+                }
+                let held = was.tickets()[ticket as usize];
+                let now = is.tickets()[ticket as usize];
+                let place = held.market as usize - 1;
+                let rest = now.place == Place::Resting;
+                self.rests = self.rests & !(1 << ticket) | u64::from(rest) << ticket;
+                let nothing = answer.first == 0 && answer.second == 0;
+                self.add_if(nothing, "claim: nothing sold");
+                self.add_if(rest && answer.first > 0, "claim: part sold");
+                self.add_if(!rest, "claim: all sold");
+                self.add_if(answer.first > 0 && answer.second == 0, "claim: pays and gets nothing");
+                let large = answer.first > 2_000_000_000 || answer.second > 2_000_000_000;
+                self.add_if(large, "claim: above 2000000000");
+                if is.markets()[place].phase == Phase::Closed {
+                    let quote = is.tray()[0] - was.tray()[0];
+                    let base = is.tray()[place + 1] - was.tray()[place + 1];
+                    self.add_if(true, "claim: last of its round");
+                    self.add_if(quote > 0, "claim: last, quote to the tray");
+                    self.add_if(base > 0, "claim: last, base to the tray");
+                }
+            }
+        }
+    }
+}
+
+/// All that was deposited and not withdrawn is somewhere, and the marks of
+/// the rounds are those of the tickets.
+fn books_are_right(x: &Exchange) -> bool {
+    let mut sums = *x.tray();
+    for row in x.balances() {
+        for (sum, amount) in sums.iter_mut().zip(row) {
+            *sum += amount;
+        }
+    }
+    let mut marks = [0u64; 3];
+    for (number, held) in x.tickets().iter().enumerate() {
+        match held.place {
+            Place::Free => {}
+            Place::Resting if held.side == 0 => sums[0] += held.offer,
+            Place::Resting => sums[held.market as usize] += held.offer,
+            Place::Round => marks[held.market as usize - 1] |= 1 << number,
+        }
+        if (held.place == Place::Free) != (held.offer == 0) {
+            return false;
+        }
+    }
+    for (place, round) in x.markets().iter().enumerate() {
+        sums[0] += round.holds[0];
+        sums[place + 1] += round.holds[1];
+        let closed = round.phase == Phase::Closed;
+        if round.marks != marks[place] || (closed && *round != Market::default()) {
+            return false;
+        }
+    }
+    sums == *x.supply()
+}
+
+fn run(mut input: impl BufRead, mut output: impl Write) -> io::Result<()> {
+    let mut exchange = Exchange::new();
+    let mut table = [[0u64; 21]; 11];
+    let mut counts = Counts::default();
+    let mut total = 0u64;
+    let mut accepted = 0u64;
+    let mut wrong_books = 0u64;
+    let mut line = Vec::new();
+    loop {
+        line.clear();
+        if input.read_until(b'\n', &mut line)? == 0 {
+            break;
+        }
+        let ended = line.last() == Some(&b'\n');
+        if ended {
+            line.pop();
+        }
+        let call = read_call(&line);
+        counts.line(&line, call, ended);
+        let (kind, code) = match call {
+            Some(call) => {
+                let was = exchange.clone();
+                let answer = exchange.call(call);
+                counts.call(&was, &exchange, call, answer);
+                let fine = if answer.code == 0 {
+                    books_are_right(&exchange)
+                } else {
+                    exchange == was && answer.first == 0 && answer.second == 0
+                };
+                wrong_books += u64::from(!fine);
+                (call.kind(), answer.code)
+            }
+            None => (0, 20),
+        };
+        table[kind][usize::from(code)] += 1;
+        total += 1;
+        accepted += u64::from(code == 0);
+    }
+
+    write!(output, "kind")?;
+    for code in 0..21 {
+        write!(output, "{code:>8}")?;
+    }
+    writeln!(output)?;
+    for (kind, row) in table.iter().enumerate() {
+        write!(output, "{kind:>4}")?;
+        for (code, count) in row.iter().enumerate() {
+            if *count > 0 || CODES[kind].contains(&code) {
+                write!(output, "{count:>8}")?;
+            } else {
+                write!(output, "{:>8}", ".")?;
+            }
+        }
+        writeln!(output)?;
+    }
+    writeln!(output, "lines {total}, accepted {accepted}, with wrong books {wrong_books}")?;
+    let mut missing = Vec::new();
+    for (kind, codes) in CODES.iter().enumerate() {
+        for &code in codes.iter() {
+            if table[kind][code] == 0 {
+                missing.push(format!("({kind},{code})"));
+            }
+        }
+    }
+    if missing.is_empty() {
+        writeln!(output, "missing pairs: none")?;
+    } else {
+        writeln!(output, "missing pairs: {}", missing.join(" "))?;
+    }
+    writeln!(output)?;
+    for name in BORDERS {
+        let count = counts.borders.get(name).copied().unwrap_or(0);
+        writeln!(output, "{count:>8}  {name}")?;
+    }
+    output.flush()
+}
+
+fn main() -> ExitCode {
+    let input = BufReader::with_capacity(1 << 20, io::stdin());
+    match run(input, io::stdout().lock()) {
+        Ok(()) => ExitCode::SUCCESS,
+        Err(error) => {
+            let _ = writeln!(io::stderr(), "cannot read or write: {error}");
+            ExitCode::FAILURE
+        }
+    }
+}

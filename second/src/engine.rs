@@ -1,0 +1,614 @@
+//! The exchange: balances, tickets, the three markets with their rounds, the
+//! tray and the last block, held in fixed arrays and changed in place by the
+//! ten calls. Each call first tests its reasons for refusal in rising number,
+//! then moves; an answer is a code and two numbers. Every token amount is at
+//! most the token's supply (deposits less withdrawals), which never passes
+//! 4,294,967,295, so that sums of amounts fit and products fit in 64 bits.
+
+/// Number of members.
+pub const MEMBERS: usize = 16;
+/// Number of tokens; token 0 is the quote.
+pub const TOKENS: usize = 4;
+/// Number of tickets.
+pub const TICKETS: usize = 64;
+/// Number of markets; market n stands at place n - 1.
+pub const MARKETS: usize = 3;
+
+const MILLION: u64 = 1_000_000;
+const MOST: u64 = 4_294_967_295;
+const MOST_LIMIT: u32 = 2_000_000_000;
+const MOST_REFERENCE: u32 = 1_000_000_000;
+const MOST_SLACK: u32 = 500_000;
+const MOST_LENGTH: u32 = 64;
+const COLLECT_BLOCKS: u32 = 4;
+
+/// What a call comes back with; code 0 is acceptance.
+#[derive(Clone, Copy, PartialEq, Eq, Debug)]
+pub struct Answer {
+    pub code: u8,
+    pub first: u32,
+    pub second: u32,
+}
+
+impl Answer {
+    /// The answer of a refusal.
+    #[inline]
+    pub fn refused(code: u8) -> Answer {
+        Answer { code, first: 0, second: 0 }
+    }
+
+    /// The answer of an accepted call. Both numbers are at most `MOST`.
+    #[inline]
+    fn accepted(first: u64, second: u64) -> Answer {
+        Answer { code: 0, first: first as u32, second: second as u32 }
+    }
+}
+
+/// One of the ten calls with its fields, not yet tested.
+#[derive(Clone, Copy, PartialEq, Eq, Debug)]
+pub enum Call {
+    Deposit { member: u32, token: u32, amount: u32 },
+    Withdraw { member: u32, token: u32, amount: u32 },
+    Order { ticket: u32, member: u32, market: u32, side: u32, limit: u32, amount: u32 },
+    Cancel { ticket: u32, member: u32 },
+    Open { market: u32, block: u32, reference: u32, slack: u32, length: u32 },
+    Enter { ticket: u32 },
+    Match { market: u32, block: u32 },
+    Bid { market: u32, member: u32, block: u32, side: u32, base: u32, bound: u32 },
+    Settle { market: u32, block: u32 },
+    Claim { ticket: u32 },
+}
+
+impl Call {
+    /// The call's kind number, 1 to 10.
+    pub fn kind(&self) -> usize {
+        match self {
+            Call::Deposit { .. } => 1,
+            Call::Withdraw { .. } => 2,
+            Call::Order { .. } => 3,
+            Call::Cancel { .. } => 4,
+            Call::Open { .. } => 5,
+            Call::Enter { .. } => 6,
+            Call::Match { .. } => 7,
+            Call::Bid { .. } => 8,
+            Call::Settle { .. } => 9,
+            Call::Claim { .. } => 10,
+        }
+    }
+}
+
+/// Where a ticket stands.
+#[derive(Clone, Copy, PartialEq, Eq, Debug, Default)]
+pub enum Place {
+    #[default]
+    Free,
+    Resting,
+    Round,
+}
+
+/// A ticket and its order; all numbers are 0 when it is free.
+#[derive(Clone, Copy, PartialEq, Eq, Debug, Default)]
+pub struct Ticket {
+    pub place: Place,
+    pub member: u32,
+    pub market: u32,
+    /// 0 buys and offers quote, 1 sells and offers base.
+    pub side: u32,
+    pub limit: u32,
+    pub offer: u64,
+}
+
+/// Where a market stands.
+#[derive(Clone, Copy, PartialEq, Eq, Debug, Default)]
+pub enum Phase {
+    #[default]
+    Closed,
+    Collect,
+    Auction,
+    Paying,
+}
+
+/// One side of a round: offers entered, and of these paid, and got for it.
+#[derive(Clone, Copy, PartialEq, Eq, Debug, Default)]
+pub struct Half {
+    pub total: u64,
+    pub paid: u64,
+    pub got: u64,
+}
+
+impl Half {
+    /// What the side still offers.
+    #[inline]
+    pub fn left(&self) -> u64 {
+        self.total.saturating_sub(self.paid)
+    }
+}
+
+/// A market and its round; all numbers are 0 when it is closed.
+#[derive(Clone, Copy, PartialEq, Eq, Debug, Default)]
+pub struct Market {
+    pub phase: Phase,
+    /// Block of the open.
+    pub opened: u32,
+    /// Block of the match, where the auction starts.
+    pub start: u32,
+    pub length: u32,
+    pub reference: u64,
+    pub hi: u64,
+    pub lo: u64,
+    /// One bit for each ticket in the round.
+    pub marks: u64,
+    /// The buys, then the sells.
+    pub halves: [Half; 2],
+    /// What the round holds: quote, then base. Side s offers `holds[s]`.
+    pub holds: [u64; 2],
+}
+
+impl Market {
+    /// The auction's price for a side, k blocks after its start, k at most
+    /// the length.
+    #[inline]
+    pub fn price(&self, side: u32, k: u32) -> u64 {
+        let step = (self.hi - self.lo) * u64::from(k) / u64::from(self.length.max(1));
+        if side == 1 {
+            self.hi.saturating_sub(step)
+        } else {
+            self.lo + step
+        }
+    }
+}
+
+/// The quote of a bid: rounded up where the maker pays it (side 1), rounded
+/// down where the maker gets it (side 0).
+#[inline]
+pub fn bid_quote(side: u32, base: u32, price: u64) -> u64 {
+    let product = u64::from(base) * price;
+    if side == 1 {
+        product.div_ceil(MILLION)
+    } else {
+        product / MILLION
+    }
+}
+
+/// The whole exchange.
+#[derive(Clone, PartialEq, Eq, Debug)]
+pub struct Exchange {
+    balances: [[u64; TOKENS]; MEMBERS],
+    /// Deposits less withdrawals, per token.
+    supply: [u64; TOKENS],
+    /// What rounding left, per token.
+    tray: [u64; TOKENS],
+    tickets: [Ticket; TICKETS],
+    markets: [Market; MARKETS],
+    last_block: u32,
+}
+
+impl Default for Exchange {
+    fn default() -> Exchange {
+        Exchange::new()
+    }
+}
+
+/// The token that a side offers.
+#[inline]
+fn offered(side: u32, market: u32) -> usize {
+    if side == 0 {
+        0
+    } else {
+        market as usize
+    }
+}
+
+#[inline]
+fn is_market(market: u32) -> bool {
+    (1..=MARKETS as u32).contains(&market)
+}
+
+impl Exchange {
+    /// A fresh exchange: all zero, free and closed.
+    pub fn new() -> Exchange {
+        Exchange {
+            balances: [[0; TOKENS]; MEMBERS],
+            supply: [0; TOKENS],
+            tray: [0; TOKENS],
+            tickets: [Ticket::default(); TICKETS],
+            markets: [Market::default(); MARKETS],
+            last_block: 0,
+        }
+    }
+
+    pub fn balances(&self) -> &[[u64; TOKENS]; MEMBERS] {
+        &self.balances
+    }
+
+    pub fn supply(&self) -> &[u64; TOKENS] {
+        &self.supply
+    }
+
+    pub fn tray(&self) -> &[u64; TOKENS] {
+        &self.tray
+    }
+
+    pub fn tickets(&self) -> &[Ticket; TICKETS] {
+        &self.tickets
+    }
+
+    /// The markets; market n stands at place n - 1.
+    pub fn markets(&self) -> &[Market; MARKETS] {
+        &self.markets
+    }
+
+    pub fn last_block(&self) -> u32 {
+        self.last_block
+    }
+
+    /// Works one call.
+    #[inline]
+    pub fn call(&mut self, call: Call) -> Answer {
+        match call {
+            Call::Deposit { member, token, amount } => self.deposit(member, token, amount),
+            Call::Withdraw { member, token, amount } => self.withdraw(member, token, amount),
+            Call::Order { ticket, member, market, side, limit, amount } => {
+                self.order(ticket, member, market, side, limit, amount)
+            }
+            Call::Cancel { ticket, member } => self.cancel(ticket, member),
+            Call::Open { market, block, reference, slack, length } => {
+                self.open(market, block, reference, slack, length)
+            }
+            Call::Enter { ticket } => self.enter(ticket),
+            Call::Match { market, block } => self.match_round(market, block),
+            Call::Bid { market, member, block, side, base, bound } => {
+                self.bid(market, member, block, side, base, bound)
+            }
+            Call::Settle { market, block } => self.settle(market, block),
+            Call::Claim { ticket } => self.claim(ticket),
+        }
+    }
+
+    /// 1. Answers the new balance, 0.
+    pub fn deposit(&mut self, member: u32, token: u32, amount: u32) -> Answer {
+        if member >= MEMBERS as u32 {
+            return Answer::refused(1);
+        }
+        if token >= TOKENS as u32 {
+            return Answer::refused(2);
+        }
+        if amount == 0 {
+            return Answer::refused(6);
+        }
+        let supply = &mut self.supply[token as usize];
+        let amount = u64::from(amount);
+        if *supply + amount > MOST {
+            return Answer::refused(14);
+        }
+        *supply += amount;
+        let balance = &mut self.balances[member as usize][token as usize];
+        *balance += amount;
+        Answer::accepted(*balance, 0)
+    }
+
+    /// 2. Answers the new balance, 0.
+    pub fn withdraw(&mut self, member: u32, token: u32, amount: u32) -> Answer {
+        if member >= MEMBERS as u32 {
+            return Answer::refused(1);
+        }
+        if token >= TOKENS as u32 {
+            return Answer::refused(2);
+        }
+        if amount == 0 {
+            return Answer::refused(6);
+        }
+        let balance = &mut self.balances[member as usize][token as usize];
+        let amount = u64::from(amount);
+        if *balance < amount {
+            return Answer::refused(19);
+        }
+        *balance -= amount;
+        self.supply[token as usize] -= amount;
+        Answer::accepted(*balance, 0)
+    }
+
+    /// 3. Answers the amount, 0.
+    pub fn order(
+        &mut self,
+        ticket: u32,
+        member: u32,
+        market: u32,
+        side: u32,
+        limit: u32,
+        amount: u32,
+    ) -> Answer {
+        if member >= MEMBERS as u32 {
+            return Answer::refused(1);
+        }
+        if !is_market(market) {
+            return Answer::refused(3);
+        }
+        if ticket >= TICKETS as u32 {
+            return Answer::refused(4);
+        }
+        if side > 1 {
+            return Answer::refused(5);
+        }
+        if amount == 0 || limit == 0 || limit > MOST_LIMIT {
+            return Answer::refused(6);
+        }
+        let slot = &mut self.tickets[ticket as usize];
+        if slot.place != Place::Free {
+            return Answer::refused(7);
+        }
+        let balance = &mut self.balances[member as usize][offered(side, market)];
+        let offer = u64::from(amount);
+        if *balance < offer {
+            return Answer::refused(19);
+        }
+        *balance -= offer;
+        *slot = Ticket { place: Place::Resting, member, market, side, limit, offer };
+        Answer::accepted(offer, 0)
+    }
+
+    /// 4. Answers the amount returned, 0.
+    pub fn cancel(&mut self, ticket: u32, member: u32) -> Answer {
+        if member >= MEMBERS as u32 {
+            return Answer::refused(1);
+        }
+        if ticket >= TICKETS as u32 {
+            return Answer::refused(4);
+        }
+        let slot = &mut self.tickets[ticket as usize];
+        if slot.place == Place::Free || slot.member != member {
+            return Answer::refused(8);
+        }
+        if slot.place == Place::Round {
+            return Answer::refused(9);
+        }
+        let offer = slot.offer;
+        self.balances[member as usize][offered(slot.side, slot.market)] += offer;
+        *slot = Ticket::default();
+        Answer::accepted(offer, 0)
+    }
+
+    /// 5. Answers the high and the low bound.
+    pub fn open(
+        &mut self,
+        market: u32,
+        block: u32,
+        reference: u32,
+        slack: u32,
+        length: u32,
+    ) -> Answer {
+        if !is_market(market) {
+            return Answer::refused(3);
+        }
+        if reference == 0
+            || reference > MOST_REFERENCE
+            || slack > MOST_SLACK
+            || length == 0
+            || length > MOST_LENGTH
+        {
+            return Answer::refused(10);
+        }
+        let round = &mut self.markets[market as usize - 1];
+        if round.phase != Phase::Closed {
+            return Answer::refused(11);
+        }
+        if block < self.last_block {
+            return Answer::refused(12);
+        }
+        let reference = u64::from(reference);
+        let slack = u64::from(slack);
+        let hi = reference * (MILLION + slack) / MILLION;
+        let lo = (reference * (MILLION - slack)).div_ceil(MILLION);
+        *round = Market {
+            phase: Phase::Collect,
+            opened: block,
+            length,
+            reference,
+            hi,
+            lo,
+            ..Market::default()
+        };
+        self.last_block = block;
+        Answer::accepted(hi, lo)
+    }
+
+    /// 6. Answers the total of the ticket's side, 0.
+    pub fn enter(&mut self, ticket: u32) -> Answer {
+        if ticket >= TICKETS as u32 {
+            return Answer::refused(4);
+        }
+        let slot = &mut self.tickets[ticket as usize];
+        match slot.place {
+            Place::Free => return Answer::refused(8),
+            Place::Round => return Answer::refused(9),
+            Place::Resting => {}
+        }
+        let round = &mut self.markets[slot.market as usize - 1];
+        if round.phase != Phase::Collect {
+            return Answer::refused(11);
+        }
+        let limit = u64::from(slot.limit);
+        let fits = if slot.side == 0 { limit >= round.hi } else { limit <= round.lo };
+        if !fits {
+            return Answer::refused(15);
+        }
+        let side = slot.side as usize;
+        slot.place = Place::Round;
+        round.marks |= 1 << ticket;
+        round.holds[side] += slot.offer;
+        round.halves[side].total += slot.offer;
+        Answer::accepted(round.halves[side].total, 0)
+    }
+
+    /// 7. Answers the base and the quote matched within.
+    pub fn match_round(&mut self, market: u32, block: u32) -> Answer {
+        if !is_market(market) {
+            return Answer::refused(3);
+        }
+        let round = &mut self.markets[market as usize - 1];
+        if round.phase != Phase::Collect {
+            return Answer::refused(11);
+        }
+        if block < self.last_block {
+            return Answer::refused(12);
+        }
+        if block - round.opened < COLLECT_BLOCKS {
+            return Answer::refused(13);
+        }
+        let [buys, sells] = &mut round.halves;
+        let mut base = sells.total.min(buys.total * MILLION / round.reference);
+        let mut quote = (base * round.reference).div_ceil(MILLION);
+        if quote * MILLION > round.hi * base {
+            base = 0;
+            quote = 0;
+        }
+        buys.paid = quote;
+        buys.got = base;
+        sells.paid = base;
+        sells.got = quote;
+        round.phase = Phase::Auction;
+        round.start = block;
+        self.last_block = block;
+        Answer::accepted(base, quote)
+    }
+
+    /// 8. Answers the base and the quote moved.
+    pub fn bid(
+        &mut self,
+        market: u32,
+        member: u32,
+        block: u32,
+        side: u32,
+        base: u32,
+        bound: u32,
+    ) -> Answer {
+        if member >= MEMBERS as u32 {
+            return Answer::refused(1);
+        }
+        if !is_market(market) {
+            return Answer::refused(3);
+        }
+        if side > 1 {
+            return Answer::refused(5);
+        }
+        if base == 0 {
+            return Answer::refused(6);
+        }
+        let round = &mut self.markets[market as usize - 1];
+        if round.phase != Phase::Auction {
+            return Answer::refused(11);
+        }
+        if block < self.last_block {
+            return Answer::refused(12);
+        }
+        let k = block - round.start;
+        if k > round.length {
+            return Answer::refused(16);
+        }
+        let quote = bid_quote(side, base, round.price(side, k));
+        let base = u64::from(base);
+        let bound = u64::from(bound);
+        let balances = &mut self.balances[member as usize];
+        // Taken from the side's offers, and given by the maker in exchange.
+        let (taken, given, taken_token, given_token);
+        if side == 1 {
+            if base > round.halves[1].left() {
+                return Answer::refused(17);
+            }
+            if quote > bound {
+                return Answer::refused(18);
+            }
+            (taken, given) = (base, quote);
+            (taken_token, given_token) = (market as usize, 0);
+        } else {
+            if quote == 0 || quote > round.halves[0].left() {
+                return Answer::refused(17);
+            }
+            if quote < bound {
+                return Answer::refused(18);
+            }
+            (taken, given) = (quote, base);
+            (taken_token, given_token) = (0, market as usize);
+        }
+        if balances[given_token] < given {
+            return Answer::refused(19);
+        }
+        balances[given_token] -= given;
+        balances[taken_token] += taken;
+        let side = side as usize;
+        round.halves[side].paid += taken;
+        round.halves[side].got += given;
+        round.holds[side] -= taken;
+        round.holds[1 - side] += given;
+        self.last_block = block;
+        Answer::accepted(base, quote)
+    }
+
+    /// 9. Answers the quote paid by buys and the base paid by sells.
+    pub fn settle(&mut self, market: u32, block: u32) -> Answer {
+        if !is_market(market) {
+            return Answer::refused(3);
+        }
+        let round = &mut self.markets[market as usize - 1];
+        if round.phase != Phase::Auction {
+            return Answer::refused(11);
+        }
+        if block < self.last_block {
+            return Answer::refused(12);
+        }
+        let [buys, sells] = &round.halves;
+        let some_left = buys.left() != 0 || sells.left() != 0;
+        if some_left && block - round.start <= round.length {
+            return Answer::refused(13);
+        }
+        let answer = Answer::accepted(buys.paid, sells.paid);
+        if round.marks == 0 {
+            *round = Market::default();
+        } else {
+            round.phase = Phase::Paying;
+        }
+        self.last_block = block;
+        answer
+    }
+
+    /// 10. Answers what the offer pays and what it gets.
+    pub fn claim(&mut self, ticket: u32) -> Answer {
+        if ticket >= TICKETS as u32 {
+            return Answer::refused(4);
+        }
+        let slot = &mut self.tickets[ticket as usize];
+        match slot.place {
+            Place::Free => return Answer::refused(8),
+            Place::Resting => return Answer::refused(9),
+            Place::Round => {}
+        }
+        let market = slot.market as usize;
+        let round = &mut self.markets[market - 1];
+        if round.phase != Phase::Paying {
+            return Answer::refused(11);
+        }
+        let side = slot.side as usize;
+        let half = round.halves[side];
+        let pays = (slot.offer * half.paid).div_ceil(half.total);
+        let gets = slot.offer * half.got / half.total;
+        let rest = slot.offer - pays;
+
+        round.holds[side] -= rest;
+        round.holds[1 - side] -= gets;
+        let got_token = if side == 0 { market } else { 0 };
+        self.balances[slot.member as usize][got_token] += gets;
+        if rest == 0 {
+            *slot = Ticket::default();
+        } else {
+            slot.place = Place::Resting;
+            slot.offer = rest;
+        }
+        round.marks &= !(1 << ticket);
+        if round.marks == 0 {
+            self.tray[0] += round.holds[0];
+            self.tray[market] += round.holds[1];
+            *round = Market::default();
+        }
+        Answer::accepted(pays, gets)
+    }
+}

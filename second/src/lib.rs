@@ -1,0 +1,8 @@
+//! The library of the package: the exchange itself (`engine`) and the text
+//! form of its calls and answers (`lines`), both offered under one name.
+
+pub mod engine;
+pub mod lines;
+
+pub use engine::{Answer, Call, Exchange, Half, Market, Phase, Place, Ticket};
+pub use lines::{next_line, read_call, write_answer, write_call, ANSWER_ROOM, CALL_ROOM, HEADER};

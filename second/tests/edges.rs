@@ -1,0 +1,378 @@
+//! Tests of the exchange: the day of the specification with its answers,
+//! every edge that the specification lists, the order of the refusals, and
+//! what a round leaves behind. After each call the books are checked: all
+//! that was deposited is somewhere, and free and closed things are zero.
+
+use second::{read_call, Answer, Exchange, Market, Phase, Place, Ticket};
+
+struct House {
+    exchange: Exchange,
+}
+
+impl House {
+    fn new() -> House {
+        House { exchange: Exchange::new() }
+    }
+
+    /// Works one call line and gives code and numbers.
+    fn call(&mut self, line: &str) -> (u8, u32, u32) {
+        let call = read_call(line.as_bytes()).expect(line);
+        let before = self.exchange.clone();
+        let Answer { code, first, second } = self.exchange.call(call);
+        if code != 0 {
+            assert_eq!(self.exchange, before, "{line}");
+            assert_eq!((first, second), (0, 0), "{line}");
+        }
+        self.check_books();
+        (code, first, second)
+    }
+
+    /// Works call lines that must all be accepted.
+    fn calls(&mut self, lines: &[&str]) {
+        for line in lines {
+            assert_eq!(self.call(line).0, 0, "{line}");
+        }
+    }
+
+    /// Works a call line that must be refused with this code.
+    fn refused(&mut self, code: u8, line: &str) {
+        assert_eq!(self.call(line), (code, 0, 0), "{line}");
+    }
+
+    fn check_books(&self) {
+        let x = &self.exchange;
+        let mut sums = *x.tray();
+        for row in x.balances() {
+            for (sum, amount) in sums.iter_mut().zip(row) {
+                *sum += amount;
+            }
+        }
+        let mut marks = [0u64; 3];
+        for (number, ticket) in x.tickets().iter().enumerate() {
+            match ticket.place {
+                Place::Free => assert_eq!(*ticket, Ticket::default()),
+                Place::Resting => {
+                    let token = if ticket.side == 0 { 0 } else { ticket.market as usize };
+                    sums[token] += ticket.offer;
+                }
+                Place::Round => marks[ticket.market as usize - 1] |= 1 << number,
+            }
+            assert_eq!(ticket.place == Place::Free, ticket.offer == 0);
+        }
+        for (place, market) in x.markets().iter().enumerate() {
+            if market.phase == Phase::Closed {
+                assert_eq!(*market, Market::default());
+            }
+            assert_eq!(market.marks, marks[place]);
+            sums[0] += market.holds[0];
+            sums[place + 1] += market.holds[1];
+        }
+        assert_eq!(sums, *x.supply());
+    }
+
+    fn phase(&self, market: usize) -> Phase {
+        self.exchange.markets()[market - 1].phase
+    }
+}
+
+const DAY: [(&str, (u8, u32, u32)); 14] = [
+    ("1,0,0,1000", (0, 1000, 0)),
+    ("1,1,1,300", (0, 300, 0)),
+    ("1,2,0,500", (0, 500, 0)),
+    ("3,0,0,1,0,3000000,600", (0, 600, 0)),
+    ("3,1,1,1,1,2000000,300", (0, 300, 0)),
+    ("5,1,10,2500000,100000,10", (0, 2750000, 2250000)),
+    ("6,0", (0, 600, 0)),
+    ("6,1", (0, 300, 0)),
+    ("7,1,14", (0, 240, 600)),
+    ("8,1,2,19,1,60,160", (0, 60, 150)),
+    ("9,1,19", (0, 600, 300)),
+    ("10,0", (0, 600, 240)),
+    ("10,1", (0, 300, 750)),
+    ("2,1,0,751", (19, 0, 0)),
+];
+
+/// The day up to its match.
+fn day_in_auction() -> House {
+    let mut house = House::new();
+    for (line, answer) in &DAY[..9] {
+        assert_eq!(house.call(line), *answer);
+    }
+    house
+}
+
+#[test]
+fn the_day() {
+    let mut house = House::new();
+    for (line, answer) in DAY {
+        assert_eq!(house.call(line), answer, "{line}");
+    }
+    assert_eq!(house.phase(1), Phase::Closed);
+    assert_eq!(*house.exchange.tray(), [0; 4]);
+    assert_eq!(house.exchange.last_block(), 19);
+}
+
+#[test]
+fn bounds_at_the_smallest_references() {
+    let mut house = House::new();
+    assert_eq!(house.call("5,1,0,1,500000,1"), (0, 1, 1));
+    assert_eq!(house.call("5,2,0,3,500000,1"), (0, 4, 2));
+    assert_eq!(house.call("5,3,0,1000000000,500000,64"), (0, 1500000000, 500000000));
+}
+
+fn small_match(sells: u32) -> (u8, u32, u32) {
+    let mut house = House::new();
+    house.calls(&["1,0,0,100", &format!("1,1,1,{sells}")]);
+    house.calls(&["3,0,0,1,0,2500000,100", &format!("3,1,1,1,1,2500000,{sells}")]);
+    assert_eq!(house.call("5,1,0,2500000,0,1"), (0, 2500000, 2500000));
+    house.calls(&["6,0", "6,1"]);
+    let answer = house.call("7,1,4");
+    assert_eq!(house.phase(1), Phase::Auction);
+    assert_eq!(house.exchange.markets()[0].start, 4);
+    answer
+}
+
+#[test]
+fn a_match_above_the_high_bound_is_dropped() {
+    assert_eq!(small_match(3), (0, 0, 0));
+    assert_eq!(small_match(4), (0, 4, 10));
+}
+
+#[test]
+fn shares_of_301() {
+    let mut house = House::new();
+    house.calls(&["1,0,0,100", "1,1,0,100", "1,2,0,101", "1,3,1,80"]);
+    house.calls(&["3,0,0,1,0,2500000,100", "3,1,1,1,0,2500000,100"]);
+    house.calls(&["3,2,2,1,0,2500000,101", "3,3,3,1,1,2500000,80"]);
+    house.calls(&["5,1,10,2500000,0,5", "6,0", "6,1", "6,2", "6,3"]);
+    assert_eq!(house.call("7,1,14"), (0, 80, 200));
+    house.refused(13, "9,1,19");
+    assert_eq!(house.call("9,1,20"), (0, 200, 80));
+    assert_eq!(house.call("10,3"), (0, 80, 200));
+    assert_eq!(house.call("10,0"), (0, 67, 26));
+    assert_eq!(house.call("10,1"), (0, 67, 26));
+    assert_eq!(*house.exchange.tray(), [0; 4]);
+    assert_eq!(house.phase(1), Phase::Paying);
+    assert_eq!(house.call("10,2"), (0, 68, 26));
+    assert_eq!(*house.exchange.tray(), [2, 2, 0, 0]);
+    assert_eq!(house.phase(1), Phase::Closed);
+    // The rests are 33 each and rest again.
+    for ticket in 0..3 {
+        house.refused(9, &format!("10,{ticket}"));
+        assert_eq!(house.call(&format!("4,{ticket},{ticket}")), (0, 33, 0));
+    }
+    house.refused(8, "10,3");
+}
+
+#[test]
+fn the_auction_price_falls_to_the_low_bound() {
+    assert_eq!(day_in_auction().call("8,1,2,14,1,60,165"), (0, 60, 165));
+    assert_eq!(day_in_auction().call("8,1,2,14,1,60,164"), (18, 0, 0));
+    assert_eq!(day_in_auction().call("8,1,2,24,1,60,135"), (0, 60, 135));
+    assert_eq!(day_in_auction().call("8,1,2,24,1,60,134"), (18, 0, 0));
+    assert_eq!(day_in_auction().call("8,1,2,25,1,60,165"), (16, 0, 0));
+    assert_eq!(day_in_auction().call("8,1,2,14,1,61,4294967295"), (17, 0, 0));
+}
+
+#[test]
+fn deposits_up_to_the_most() {
+    let mut house = House::new();
+    assert_eq!(house.call("1,0,0,4294967294"), (0, 4294967294, 0));
+    assert_eq!(house.call("1,1,0,1"), (0, 1, 0));
+    house.refused(14, "1,1,0,1");
+    house.refused(14, "1,0,0,4294967295");
+    assert_eq!(house.call("1,1,1,4294967295"), (0, 4294967295, 0));
+    house.refused(14, "1,2,1,1");
+    // What is away in tickets still counts.
+    house.calls(&["3,0,1,1,1,1,4294967295"]);
+    house.refused(14, "1,2,1,1");
+    house.calls(&["2,0,0,7"]);
+    assert_eq!(house.call("1,9,0,7"), (0, 7, 0));
+    house.refused(14, "1,9,0,1");
+}
+
+#[test]
+fn a_match_needs_four_blocks() {
+    let mut house = House::new();
+    house.calls(&["5,1,10,2500000,0,5"]);
+    house.refused(13, "7,1,13");
+    house.refused(12, "7,1,9");
+    assert_eq!(house.exchange.last_block(), 10);
+    assert_eq!(house.call("7,1,14"), (0, 0, 0));
+}
+
+#[test]
+fn settle_without_tickets_closes() {
+    let mut house = House::new();
+    house.calls(&["5,1,10,2500000,0,5", "7,1,14"]);
+    assert_eq!(house.call("9,1,14"), (0, 0, 0));
+    assert_eq!(house.phase(1), Phase::Closed);
+    house.calls(&["5,1,14,1,0,1"]);
+}
+
+#[test]
+fn settle_waits_for_both_sides() {
+    // The buys are all paid, 60 base are left.
+    let mut house = day_in_auction();
+    house.refused(13, "9,1,14");
+    house.refused(13, "9,1,24");
+    house.refused(12, "9,1,13");
+    assert_eq!(house.call("9,1,25"), (0, 600, 240));
+    // What isn't sold rests again and goes into a second round.
+    assert_eq!(house.call("10,1"), (0, 240, 600));
+    house.refused(11, "6,1");
+    assert_eq!(house.call("10,0"), (0, 600, 240));
+    house.calls(&["5,1,25,2000000,0,1"]);
+    assert_eq!(house.call("6,1"), (0, 60, 0));
+    house.calls(&["7,1,29", "9,1,31"]);
+    // Nothing sold: 0, 0, and the offer rests again.
+    assert_eq!(house.call("10,1"), (0, 0, 0));
+    assert_eq!(house.call("4,1,1"), (0, 60, 0));
+}
+
+#[test]
+fn makers_on_the_buy_side() {
+    let mut house = House::new();
+    house.calls(&["1,0,0,1000", "1,5,2,100", "3,7,0,2,0,2000000000,1000"]);
+    assert_eq!(house.call("5,2,0,3000000,500000,4"), (0, 4500000, 1500000));
+    house.calls(&["6,7", "7,2,4"]);
+    house.refused(17, "8,2,5,4,0,668,0");
+    house.refused(19, "8,2,5,4,0,667,0");
+    house.refused(18, "8,2,5,4,0,10,16");
+    house.refused(19, "8,2,5,4,0,101,0");
+    assert_eq!(house.call("8,2,5,4,0,10,15"), (0, 10, 15));
+    assert_eq!(house.call("8,2,5,5,0,11,0"), (0, 11, 24));
+    assert_eq!(house.call("8,2,5,8,0,79,355"), (0, 79, 355));
+    house.refused(16, "8,2,5,9,0,1,0");
+    assert_eq!(house.call("9,2,9"), (0, 394, 0));
+    assert_eq!(house.call("10,7"), (0, 394, 100));
+    assert_eq!(house.exchange.tickets()[7].offer, 606);
+    assert_eq!(house.exchange.balances()[0], [0, 0, 100, 0]);
+    assert_eq!(house.exchange.balances()[5], [394, 0, 0, 0]);
+}
+
+#[test]
+fn a_bid_whose_quote_comes_to_nothing() {
+    let mut house = House::new();
+    house.calls(&["1,0,0,1000", "1,5,3,100", "3,0,0,3,0,1,1000"]);
+    house.calls(&["5,3,0,1,0,1", "6,0", "7,3,4"]);
+    house.refused(17, "8,3,5,4,0,100,0");
+    house.refused(17, "8,3,5,4,0,999999,0");
+    house.refused(19, "8,3,5,4,0,1000000,0");
+    house.refused(18, "8,3,5,4,0,1000000,2");
+}
+
+#[test]
+fn a_cost_above_the_most() {
+    let mut house = House::new();
+    house.calls(&["1,0,1,4294967295", "3,0,0,1,1,1,4294967295"]);
+    house.calls(&["1,1,0,4294967295", "3,1,1,2,0,2000000000,4294967295"]);
+    house.calls(&["5,1,0,1000000000,0,1"]);
+    house.refused(11, "6,1");
+    house.calls(&["6,0", "7,1,4"]);
+    house.refused(18, "8,1,5,4,1,4294967295,4294967295");
+    house.refused(17, "8,1,5,4,0,4294967295,0");
+    house.refused(19, "8,1,5,4,1,4294967,4294967295");
+    house.refused(18, "8,1,5,4,1,4294968,4294967295");
+}
+
+#[test]
+fn the_largest_shares() {
+    let mut house = House::new();
+    house.calls(&["1,0,1,4294967295", "3,0,0,1,1,1,4294967295"]);
+    house.calls(&["1,1,0,4294967295", "3,1,1,1,0,2000000000,4294967295"]);
+    house.calls(&["5,1,0,1000000,0,1", "6,0", "6,1"]);
+    assert_eq!(house.call("7,1,4294967295"), (0, 4294967295, 4294967295));
+    assert_eq!(house.call("9,1,4294967295"), (0, 4294967295, 4294967295));
+    assert_eq!(house.call("10,0"), (0, 4294967295, 4294967295));
+    assert_eq!(house.call("10,1"), (0, 4294967295, 4294967295));
+    assert_eq!(house.phase(1), Phase::Closed);
+}
+
+#[test]
+fn limits_at_the_bounds() {
+    let mut house = House::new();
+    house.calls(&["1,0,0,100", "1,0,1,100", "5,1,0,1000000,100000,1"]);
+    house.calls(&["3,0,0,1,0,1100000,10", "3,1,0,1,0,1099999,10"]);
+    house.calls(&["3,2,0,1,1,900000,10", "3,3,0,1,1,900001,10"]);
+    assert_eq!(house.call("6,0"), (0, 10, 0));
+    house.refused(15, "6,1");
+    assert_eq!(house.call("6,2"), (0, 10, 0));
+    house.refused(15, "6,3");
+}
+
+#[test]
+fn refusals_in_rising_number() {
+    let mut house = House::new();
+    house.refused(1, "1,16,4,0");
+    house.refused(2, "1,15,4,0");
+    house.refused(6, "1,15,3,0");
+    house.refused(1, "2,16,4,0");
+    house.refused(2, "2,15,4,0");
+    house.refused(6, "2,15,3,0");
+    house.refused(19, "2,15,3,1");
+    house.refused(1, "3,64,16,0,2,0,0");
+    house.refused(3, "3,64,15,0,2,0,0");
+    house.refused(3, "3,64,15,4,2,0,0");
+    house.refused(4, "3,64,15,3,2,0,0");
+    house.refused(5, "3,63,15,3,2,0,0");
+    house.refused(6, "3,63,15,3,1,1,0");
+    house.refused(6, "3,63,15,3,1,0,1");
+    house.refused(6, "3,63,15,3,1,2000000001,1");
+    house.refused(19, "3,63,15,3,1,2000000000,1");
+    house.calls(&["1,15,3,2", "3,63,15,3,1,1,1"]);
+    house.refused(7, "3,63,15,3,1,1,2");
+    house.refused(1, "4,64,16");
+    house.refused(4, "4,64,15");
+    house.refused(8, "4,62,15");
+    house.refused(8, "4,63,14");
+    house.refused(3, "5,0,0,0,0,0");
+    house.refused(3, "5,4,0,0,0,0");
+    house.refused(10, "5,3,0,0,0,1");
+    house.refused(10, "5,3,0,1000000001,0,1");
+    house.refused(10, "5,3,0,1,500001,1");
+    house.refused(10, "5,3,0,1,0,0");
+    house.refused(10, "5,3,0,1,0,65");
+    house.refused(4, "6,64");
+    house.refused(8, "6,62");
+    house.refused(11, "6,63");
+    house.refused(11, "7,3,0");
+    house.refused(11, "9,3,0");
+    house.refused(9, "10,63");
+    house.calls(&["5,3,7,1,0,64", "6,63"]);
+    house.refused(9, "6,63");
+    house.refused(9, "4,63,15");
+    house.refused(8, "4,63,14");
+    house.refused(11, "10,63");
+    house.refused(10, "5,3,0,1,0,65");
+    house.refused(11, "5,3,0,1,0,64");
+    house.refused(12, "5,2,6,1,0,64");
+    house.refused(3, "7,4,0");
+    house.refused(12, "7,3,6");
+    house.refused(13, "7,3,10");
+    house.refused(11, "9,3,0");
+    house.calls(&["7,3,11"]);
+    house.refused(11, "7,3,0");
+    house.refused(11, "10,63");
+    house.refused(1, "8,0,16,0,2,0,0");
+    house.refused(3, "8,0,15,0,2,0,0");
+    house.refused(3, "8,4,15,0,2,0,0");
+    house.refused(5, "8,3,15,0,2,0,0");
+    house.refused(6, "8,3,15,0,1,0,0");
+    house.refused(11, "8,2,15,0,1,2,0");
+    house.refused(12, "8,3,15,10,1,2,0");
+    house.refused(16, "8,3,15,76,1,2,0");
+    house.refused(17, "8,3,15,75,1,2,0");
+    house.refused(18, "8,3,15,75,1,1,0");
+    house.refused(19, "8,3,15,75,1,1,1");
+    house.refused(3, "9,0,0");
+    house.refused(12, "9,3,10");
+    house.refused(13, "9,3,75");
+    house.calls(&["9,3,76"]);
+    house.refused(11, "9,3,76");
+    house.refused(11, "8,3,15,76,1,1,1");
+    house.refused(4, "10,64");
+    house.refused(8, "10,62");
+    assert_eq!(house.call("10,63"), (0, 0, 0));
+    assert_eq!(house.phase(3), Phase::Closed);
+}
