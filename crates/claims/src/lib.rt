@@ -1,4 +1,5 @@
 // Kind 10, the state by value: the form first, then the work on the parts, and the parts put back.
+pub mod closing;
 ghost use mathlib.Core.Path.{_≡_};
 ghost use Rattle.model.specs.Calls.{claimOf};
 ghost use Rattle.model.specs.Run.{Reachable};
