@@ -1,19 +1,19 @@
 // The engine's one door by value: any of the ten calls, taken in a state that calls can leave.
 ghost use mathlib.Core.Path.{_≡_};
 ghost use Rattle.model.specs.Run.{Reachable, stepOf};
-use accounts::calls::cancel;
-use accounts::calls::deposit;
-use accounts::calls::order;
-use accounts::calls::withdraw;
-use auction::calls::bid;
-use auction::calls::settle;
-use claims::calls::claim;
+use accounts::cancel;
+use accounts::deposit;
+use accounts::order;
+use accounts::withdraw;
+use auction::bid;
+use auction::settle;
+use claims::claim;
 use model::answer::Outcome;
 use model::call::Call;
 use model::state::Exchange;
-use rounds::calls::enter;
-use rounds::calls::match_round;
-use rounds::calls::open;
+use rounds::enter;
+use rounds::match_round;
+use rounds::open;
 
 // One call: its answer, and the state after it.
 pub fn step(x: Exchange, c: Call) -> Outcome

@@ -1,13 +1,14 @@
 -- `rounds::enter` meets its contract.
-use mathlib.Core.Path.{_≡_, sym, ap, ap₂, _∙_}
 use Prim.Native.Nat.{ℕ, _<_}
+use mathlib.Core.Path.{_≡_, sym, ap, ap₂, _∙_}
+use native.Mathlib.Omega.{arith}
 use borrow.Author.Needs.{needs}
 use Rattle.model.specs.declared.state.Ticket.{Ticket}
 use Rattle.model.specs.declared.state.Market.{Market}
 use Rattle.model.specs.declared.parts.Form.the-variants.{Good}
 use Rattle.model.specs.declared.parts.Joined.{Joined}
 use Rattle.model.specs.State.{ticket, marketAt}
-use Rattle.model.specs.Parts.{ticketForm, formOf, marketIn, ticketAt, enterOn, putJoined}
+use Rattle.model.specs.Parts.{ticketForm, formOf, marketIn, enterOn, putJoined}
 use Rattle.model.proofs.OnParts.{after-bad, after-good, ticket-place, enter-on}
 use Rattle.model.proofs.PartBounds.{ticket-places}
 use Rattle.model.proofs.ReachBounds.{reachable-bounded}
@@ -31,8 +32,12 @@ enum-told c = search needs
 good : (c : tie.After-enum-told) → formOf (ticketForm (c .before .before .before .args .ticket)) ≡ Good
 good c = sym (c .before .before .ticket-form .ensures) ∙ c .enum-told .given .1
 
+-- and says this of its number
+bound : (c : tie.After-enum-told) → c .before .before .before .args .ticket < 64
+bound c = ticket-place (c .before .before .before .args .ticket) (good c)
+
 ticket-at-requires : tie.Need-ticket-at-requires
-ticket-at-requires c κs = ticket-place _ (good c)
+ticket-at-requires c κs = let h = bound c in omega arith
 
 ticket-market-requires : tie.Need-ticket-market-requires
 ticket-market-requires c κs = search needs
@@ -46,13 +51,14 @@ market-of c = c .ticket-market .ensures ∙ ap (λ (t : Ticket). marketIn (t .st
 place : (c : tie.After-ticket-market) → (0 < c .ticket-market .result) × (c .ticket-market .result < 4)
 place c =
     let s = c .before .before .before .before .before in
-    let p = ticket-places (s .args .x) (reachable-bounded (s .args .x) (s .pre)) (s .args .ticket) (ticket-place _ (good (c .before .before))) in
-    rw (market-of c) (p .0, p .1)
+    let p = ticket-places (s .args .x) (reachable-bounded (s .args .x) (s .pre)) (s .args .ticket) (bound (c .before .before)) in
+    let e = market-of c in
+    omega arith
 
 market-at-requires : tie.Need-market-at-requires
-market-at-requires c κs = place c
+market-at-requires c κs = let p = place c in omega arith
 
--- what is taken out
+-- the market that is taken out is its
 taken : (c : tie.After-market-at) →
     let a = c .before .before .before .before .before .before .args in c .market-at .result ≡ marketAt (a .x .markets) (marketIn (ticket (a .x) (a .ticket)))
 taken c = c .market-at .ensures ∙ ap (marketAt (c .before .before .before .before .before .before .args .x .markets)) (market-of (c .before))
@@ -60,13 +66,14 @@ taken c = c .market-at .ensures ∙ ap (marketAt (c .before .before .before .bef
 enter-requires : tie.Need-enter-requires
 enter-requires c κs =
     let s = c .before .before .before .before .before .before in
-    let h = ticket-place _ (good (c .before .before .before)) in
+    let h = bound (c .before .before .before) in
     (h, enter-asks (s .args .x) (s .pre) (s .args .ticket) h _ _ (c .before .before .ticket-at .ensures) (taken c))
 
 put-joined-requires : tie.Need-put-joined-requires
 put-joined-requires c κs =
+    let h = bound (c .before .before .before .before) in
     let p = place (c .before .before) in
-    (ticket-place _ (good (c .before .before .before .before)), p .0, p .1)
+    omega arith
 
 returns : tie.Need-returns
 returns c =

@@ -1,5 +1,7 @@
 -- `rounds::match_round` meets its contract.
+use Prim.Native.Nat.{_<_}
 use mathlib.Core.Path.{_≡_, sym, ap, _∙_}
+use native.Mathlib.Omega.{arith}
 use borrow.Author.Needs.{needs}
 use Rattle.model.specs.declared.state.Market.{Market}
 use Rattle.model.specs.declared.parts.Form.the-variants.{Good}
@@ -25,17 +27,21 @@ enum-told c = search needs
 good : (c : tie.After-enum-told) → formOf (marketForm (c .before .before .before .args .market)) ≡ Good
 good c = sym (c .before .before .market-form .ensures) ∙ c .enum-told .given .1
 
+-- and says this of its number
+bounds : (c : tie.After-enum-told) → let a = c .before .before .before .args in (0 < a .market) × (a .market < 4)
+bounds c = market-in (c .before .before .before .args .market) (good c)
+
 market-at-requires : tie.Need-market-at-requires
-market-at-requires c κs = market-in _ (good (c .before))
+market-at-requires c κs = let b = bounds (c .before) in omega arith
 
 match-round-requires : tie.Need-match-round-requires
 match-round-requires c κs =
     let s = c .before .before .before .before .before in
-    let g = market-in _ (good (c .before .before)) in
-    match-asks (s .args .x) (s .pre) (s .args .market) (g .0) (g .1) _ (c .market-at .ensures)
+    let b = bounds (c .before .before) in
+    match-asks (s .args .x) (s .pre) (s .args .market) (b .0) (b .1) _ (c .market-at .ensures)
 
 put-moved-requires : tie.Need-put-moved-requires
-put-moved-requires c κs = market-in _ (good (c .before .before .before))
+put-moved-requires c κs = let b = bounds (c .before .before .before) in omega arith
 
 returns : tie.Need-returns
 returns c =

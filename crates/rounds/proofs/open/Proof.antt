@@ -1,6 +1,7 @@
 -- `rounds::open` meets its contract.
 use Prim.Native.Nat.{_≤_, _<_}
 use mathlib.Core.Path.{_≡_, sym, ap, _∙_}
+use native.Mathlib.Omega.{arith}
 use borrow.Author.Needs.{needs}
 use Rattle.model.specs.declared.state.Market.{Market}
 use Rattle.model.specs.declared.parts.Form.the-variants.{Good}
@@ -25,18 +26,19 @@ enum-told c = search needs
 good : (c : tie.After-enum-told) → let a = c .before .before .before .args in formOf (openForm (a .market) (a .reference) (a .slack) (a .length)) ≡ Good
 good c = sym (c .before .before .open-form .ensures) ∙ c .enum-told .given .1
 
+-- and says this of its numbers
 bounds : (c : tie.After-enum-told) →
     let a = c .before .before .before .args in (0 < a .market) × (a .market < 4) × (a .reference ≤ 1000000000) × (a .slack ≤ 500000)
 bounds c = let a = c .before .before .before .args in open-places (a .market) (a .reference) (a .slack) (a .length) (good c)
 
 market-at-requires : tie.Need-market-at-requires
-market-at-requires c κs = let b = bounds (c .before) in (b .0, b .1)
+market-at-requires c κs = let b = bounds (c .before) in omega arith
 
 open-requires : tie.Need-open-requires
-open-requires c κs = let b = bounds (c .before .before) in (b .2, b .3)
+open-requires c κs = let b = bounds (c .before .before) in omega arith
 
 put-moved-requires : tie.Need-put-moved-requires
-put-moved-requires c κs = let b = bounds (c .before .before .before) in (b .0, b .1)
+put-moved-requires c κs = let b = bounds (c .before .before .before) in omega arith
 
 returns : tie.Need-returns
 returns c =

@@ -40,7 +40,7 @@ returns-3 c =
     let h = c .before .before .before .before .before .before .before .before .before .before .before .before .if1 .left in
     let k = c .before .before .before .before .before .before .before .before .before .if2 .left in
     ap (matchedWith (a .r) (a .block)) (c .before .before .trade-within .ensures)
-    ∙ sym (match-done (a .market) (a .last) (a .block) (a .r) (s .pre .0) h k)
+    ∙ sym (match-done (a .market) (a .last) (a .block) (a .r) (s .pre .0) (omega (arith, h)) (omega (arith, k)))
 
 pub match-collected-spec : {M : Type 1} → statement M
 match-collected-spec =
