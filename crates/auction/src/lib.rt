@@ -4,12 +4,12 @@ ghost use Rattle.model.specs.Calls.{bidOf, settleOf};
 ghost use Rattle.model.specs.Run.{Reachable};
 ghost use Prim.Native.Nat.{_<_};
 ghost use Rattle.model.specs.Parts.{putTraded};
-use forms::call::bid_form;
-use forms::call::market_form;
+use forms::call::form_of;
 use forms::side::side_of;
 use ledger::row_of;
 use ledger::with_row;
 use model::answer::Outcome;
+use model::call::Call;
 use model::parts::Form;
 use model::parts::Traded;
 use model::state::Exchange;
@@ -52,7 +52,14 @@ pub fn bid(
     requires { ⌜ Reachable x ⌝ }
     ensures { λ r. ⌜ r ≡ bidOf x market member block side base bound ⌝ }
 {
-    let form = bid_form(market, member, side, base);
+    let form = form_of(Call::Bid {
+        market,
+        member,
+        block,
+        side,
+        base,
+        bound,
+    });
     match form {
         Form::Bad(why) => refused(x, why),
         Form::Good => {
@@ -79,7 +86,7 @@ pub fn settle(x: Exchange, market: u32, block: u32) -> Outcome
     requires { ⌜ Reachable x ⌝ }
     ensures { λ r. ⌜ r ≡ settleOf x market block ⌝ }
 {
-    let form = market_form(market);
+    let form = form_of(Call::Settle { market, block });
     match form {
         Form::Bad(why) => refused(x, why),
         Form::Good => {

@@ -2,10 +2,8 @@
 use Prim.Native.Nat.{ℕ, zero, suc, _+_, _≤_, _<_}
 use mathlib.Core.Path.{_≡_, refl, sym, ap, ap₂, subst, _∙_}
 use mathlib.Core.List.{List, [], _∷_, map}
-use native.Mathlib.Decide.{decLt}
 use native.Mathlib.Omega.{arith}
 use lib.ListN.{length, length-map, List·getD-eq-default}
-use borrow.Author.Tests.{le-ltb}
 use Rattle.ticket_set.specs.TicketSet.{nextOf, membersOf, removed}
 use Rattle.ticket_set.specs.declared.Next.the-variants.{At, Nothing}
 use Rattle.ticket_set.proofs.Least.{next-of-empty}
@@ -19,14 +17,12 @@ use Rattle.model.specs.declared.call.Call.the-variants as Call
 use Rattle.model.specs.declared.answer.Answer.{Answer}
 use Rattle.model.specs.declared.answer.Answer.the-variants.{Accepted, Refused}
 use Rattle.model.specs.declared.answer.Refusal.{Refusal}
-use Rattle.model.specs.declared.parts.Form.the-variants.{Good, Bad}
 use Rattle.model.specs.State.{closedMarket, phase, roundIn}
 use Rattle.model.specs.Answers.{codeOf}
 use Rattle.model.specs.Calls.{settleOf, claimOf}
 use Rattle.model.specs.Run.{Reachable, stepOf}
 use Rattle.model.specs.Closing.{afterCalls, closingCalls}
 use Rattle.model.specs.Bounds.{Bounded}
-use Rattle.model.specs.Parts.{formOf, marketForm}
 use Rattle.model.proofs.Codes.{refusal-code}
 use Rattle.model.proofs.WindUp.{Winding, winding-settled, winding-tickets, winding-next, settle-closes, members-named}
 use Rattle.claims.specs.declared.closing.Closing.{Closing}
@@ -35,18 +31,17 @@ use Rattle.claims.specs.Closings.{nextMarked, closedBy, closeOf, Brought
 -- ---- the next marked ticket
 
 -- a market that there is not marks none
-pub no-market : (x : Exchange) → Bounded x → (n : ℕ) (w : Refusal) → formOf (marketForm n) ≡ Bad w → nextMarked x n ≡ Nothing
-unfolding nextMarked formOf
-no-market x b zero w e = next-of-empty
-no-market x b (suc i) w e = go (decLt i 3)
-  where
-    go : Dec (i < 3) → nextOf (roundIn (phase x (suc i)) .tickets) ≡ Nothing
-    go (yes l) =
-        let g : formOf (marketForm (suc i)) ≡ Good = rw (le-ltb (suc i) 1 (omega arith), le-ltb 3 (suc i) (omega arith)) in
-        absurd (let z : _≡_ {A = ℕ} 0 1 = cc in omega arith)
-    go (no d) =
-        ap (λ (m : Market). nextOf (roundIn (m .phase) .tickets)) (List·getD-eq-default (x .markets) closedMarket (omega (arith, b .markets)))
-        ∙ next-of-empty
+pub no-market-low : (x : Exchange) (n : ℕ) → n < 1 → nextMarked x n ≡ Nothing
+unfolding nextMarked
+no-market-low x zero h = next-of-empty
+no-market-low x (suc i) h = absurd (omega arith)
+
+pub no-market-high : (x : Exchange) → Bounded x → (n : ℕ) → 3 < n → nextMarked x n ≡ Nothing
+unfolding nextMarked
+no-market-high x b zero h = absurd (omega arith)
+no-market-high x b (suc i) h =
+    ap (λ (m : Market). nextOf (roundIn (m .phase) .tickets)) (List·getD-eq-default (x .markets) closedMarket (omega (arith, b .markets)))
+    ∙ next-of-empty
 
 -- ---- one turn after the other
 

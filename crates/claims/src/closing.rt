@@ -3,11 +3,9 @@ ghost use mathlib.Core.Path.{_≡_};
 ghost use Rattle.model.specs.State.{roundIn};
 ghost use Rattle.model.specs.Run.{Reachable};
 ghost use Rattle.claims.specs.Closings.{nextMarked, Brought};
-use auction::settle;
 use crate::claim;
-use forms::call::market_form;
+use auction::settle;
 use model::answer::Answer;
-use model::parts::Form;
 use model::state::Exchange;
 use model::state::Market;
 use model::state::Phase;
@@ -40,11 +38,13 @@ pub fn next_marked(x: Exchange, market: u32) -> Next
     requires { ⌜ Reachable x ⌝ }
     ensures { λ r. ⌜ r ≡ nextMarked x market ⌝ }
 {
-    let form = market_form(market);
-    match form {
-        Form::Bad(_) => Next::Nothing,
-        Form::Good => next_ticket(marked(market_at(x, market))),
+    if market < 1 {
+        return Next::Nothing;
     }
+    if 3 < market {
+        return Next::Nothing;
+    }
+    next_ticket(marked(market_at(x, market)))
 }
 
 // Settles a market and claims every ticket that its round marks, lowest first.

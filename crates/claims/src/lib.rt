@@ -1,16 +1,18 @@
 // Kind 10, the state by value: the form first, then the work on the parts, and the parts put back.
 pub mod closing;
+
 ghost use mathlib.Core.Path.{_≡_};
 ghost use Rattle.model.specs.Calls.{claimOf};
 ghost use Rattle.model.specs.Run.{Reachable};
 ghost use Prim.Native.Nat.{_<_};
 ghost use Rattle.model.specs.Parts.{putClaimed};
-use forms::call::ticket_form;
+use forms::call::form_of;
 use forms::ticket::ticket_market;
 use forms::ticket::ticket_member;
 use ledger::row_of;
 use ledger::with_row;
 use model::answer::Outcome;
+use model::call::Call;
 use model::parts::Claimed;
 use model::parts::Form;
 use model::state::Exchange;
@@ -52,7 +54,7 @@ pub fn claim(x: Exchange, ticket: u32) -> Outcome
     requires { ⌜ Reachable x ⌝ }
     ensures { λ r. ⌜ r ≡ claimOf x ticket ⌝ }
 {
-    let form = ticket_form(ticket);
+    let form = form_of(Call::Claim { ticket });
     match form {
         Form::Bad(why) => refused(x, why),
         Form::Good => {

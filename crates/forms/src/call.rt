@@ -2,6 +2,7 @@
 ghost use mathlib.Core.Path.{_≡_};
 ghost use Rattle.model.specs.Parts.{
   formOf,
+  callForm,
   bankForm,
   orderForm,
   cancelForm,
@@ -11,10 +12,11 @@ ghost use Rattle.model.specs.Parts.{
   bidForm,
 };
 use model::answer::Refusal;
+use model::call::Call;
 use model::parts::Form;
 
 // Deposit and withdraw.
-pub fn bank_form(member: u32, token: u32, amount: u32) -> Form
+fn bank_form(member: u32, token: u32, amount: u32) -> Form
     ensures { λ r. ⌜ r ≡ formOf (bankForm member token amount) ⌝ }
 {
     if 15 < member {
@@ -30,7 +32,7 @@ pub fn bank_form(member: u32, token: u32, amount: u32) -> Form
 }
 
 // Order.
-pub fn order_form(ticket: u32, member: u32, market: u32, side: u32, limit: u32, amount: u32) -> Form
+fn order_form(ticket: u32, member: u32, market: u32, side: u32, limit: u32, amount: u32) -> Form
     ensures { λ r. ⌜ r ≡ formOf (orderForm ticket member market side limit amount) ⌝ }
 {
     if 15 < member {
@@ -61,7 +63,7 @@ pub fn order_form(ticket: u32, member: u32, market: u32, side: u32, limit: u32, 
 }
 
 // Cancel.
-pub fn cancel_form(ticket: u32, member: u32) -> Form
+fn cancel_form(ticket: u32, member: u32) -> Form
     ensures { λ r. ⌜ r ≡ formOf (cancelForm ticket member) ⌝ }
 {
     if 15 < member {
@@ -74,7 +76,7 @@ pub fn cancel_form(ticket: u32, member: u32) -> Form
 }
 
 // Open.
-pub fn open_form(market: u32, reference: u32, slack: u32, length: u32) -> Form
+fn open_form(market: u32, reference: u32, slack: u32, length: u32) -> Form
     ensures { λ r. ⌜ r ≡ formOf (openForm market reference slack length) ⌝ }
 {
     if market < 1 {
@@ -102,7 +104,7 @@ pub fn open_form(market: u32, reference: u32, slack: u32, length: u32) -> Form
 }
 
 // Enter and claim.
-pub fn ticket_form(ticket: u32) -> Form
+fn ticket_form(ticket: u32) -> Form
     ensures { λ r. ⌜ r ≡ formOf (ticketForm ticket) ⌝ }
 {
     if 63 < ticket {
@@ -112,7 +114,7 @@ pub fn ticket_form(ticket: u32) -> Form
 }
 
 // Match and settle.
-pub fn market_form(market: u32) -> Form
+fn market_form(market: u32) -> Form
     ensures { λ r. ⌜ r ≡ formOf (marketForm market) ⌝ }
 {
     if market < 1 {
@@ -125,7 +127,7 @@ pub fn market_form(market: u32) -> Form
 }
 
 // Bid.
-pub fn bid_form(market: u32, member: u32, side: u32, base: u32) -> Form
+fn bid_form(market: u32, member: u32, side: u32, base: u32) -> Form
     ensures { λ r. ⌜ r ≡ formOf (bidForm market member side base) ⌝ }
 {
     if 15 < member {
@@ -144,4 +146,50 @@ pub fn bid_form(market: u32, member: u32, side: u32, base: u32) -> Form
         return Form::Bad(Refusal::BadAmountOrLimit);
     }
     Form::Good
+}
+
+// The form of a call.
+pub fn form_of(c: Call) -> Form
+    ensures { λ r. ⌜ r ≡ formOf (callForm c) ⌝ }
+{
+    match c {
+        Call::Deposit {
+            member,
+            token,
+            amount,
+        } => bank_form(member, token, amount),
+        Call::Withdraw {
+            member,
+            token,
+            amount,
+        } => bank_form(member, token, amount),
+        Call::Order {
+            ticket,
+            member,
+            market,
+            side,
+            limit,
+            amount,
+        } => { order_form(ticket, member, market, side, limit, amount) }
+        Call::Cancel { ticket, member } => cancel_form(ticket, member),
+        Call::Open {
+            market,
+            block: _,
+            reference,
+            slack,
+            length,
+        } => { open_form(market, reference, slack, length) }
+        Call::Enter { ticket } => ticket_form(ticket),
+        Call::Match { market, block: _ } => market_form(market),
+        Call::Bid {
+            market,
+            member,
+            block: _,
+            side,
+            base,
+            bound: _,
+        } => { bid_form(market, member, side, base) }
+        Call::Settle { market, block: _ } => market_form(market),
+        Call::Claim { ticket } => ticket_form(ticket),
+    }
 }

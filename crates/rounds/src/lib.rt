@@ -4,11 +4,10 @@ ghost use Rattle.model.specs.Calls.{openOf, enterOf, matchOf};
 ghost use Rattle.model.specs.Run.{Reachable};
 ghost use Prim.Native.Nat.{_<_};
 ghost use Rattle.model.specs.Parts.{putMoved, putJoined};
-use forms::call::market_form;
-use forms::call::open_form;
-use forms::call::ticket_form;
+use forms::call::form_of;
 use forms::ticket::ticket_market;
 use model::answer::Outcome;
+use model::call::Call;
 use model::parts::Form;
 use model::parts::Joined;
 use model::parts::Moved;
@@ -66,7 +65,13 @@ pub fn open(
     requires { ⌜ Reachable x ⌝ }
     ensures { λ r. ⌜ r ≡ openOf x market block reference slack length ⌝ }
 {
-    let form = open_form(market, reference, slack, length);
+    let form = form_of(Call::Open {
+        market,
+        block,
+        reference,
+        slack,
+        length,
+    });
     match form {
         Form::Bad(why) => refused(x, why),
         Form::Good => {
@@ -82,7 +87,7 @@ pub fn enter(x: Exchange, ticket: u32) -> Outcome
     requires { ⌜ Reachable x ⌝ }
     ensures { λ r. ⌜ r ≡ enterOf x ticket ⌝ }
 {
-    let form = ticket_form(ticket);
+    let form = form_of(Call::Enter { ticket });
     match form {
         Form::Bad(why) => refused(x, why),
         Form::Good => {
@@ -99,7 +104,7 @@ pub fn match_round(x: Exchange, market: u32, block: u32) -> Outcome
     requires { ⌜ Reachable x ⌝ }
     ensures { λ r. ⌜ r ≡ matchOf x market block ⌝ }
 {
-    let form = market_form(market);
+    let form = form_of(Call::Match { market, block });
     match form {
         Form::Bad(why) => refused(x, why),
         Form::Good => {

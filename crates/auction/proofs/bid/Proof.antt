@@ -1,13 +1,13 @@
 -- `auction::bid` meets its contract.
 use Prim.Native.Nat.{_<_}
-use mathlib.Core.Path.{_≡_, sym, ap, ap₂, subst, _∙_}
+use mathlib.Core.Path.{_≡_, sym, ap, subst, _∙_}
 use native.Mathlib.Omega.{arith}
 use borrow.Author.Needs.{needs}
-use Rattle.pricing.specs.declared.Side.{Side}
 use Rattle.ledger.specs.declared.Row.{Row}
 use Rattle.ledger.specs.Balances.{rowOf}
 use Rattle.model.specs.declared.state.Market.{Market}
 use Rattle.model.specs.declared.parts.Form.the-variants.{Good}
+use Rattle.model.specs.Sides.{sideOf}
 use Rattle.model.specs.State.{marketAt}
 use Rattle.model.specs.Bounds.{BidBounds}
 use Rattle.model.specs.Parts.{formOf, bidForm, bidOn, putTraded}
@@ -19,13 +19,13 @@ use Rattle.auction.proofs.bid.Tie as tie
 
 -- the form was found good
 formed : (c : tie.After-enum-told) → let a = c .before .before .before .args in formOf (bidForm (a .market) (a .member) (a .side) (a .base)) ≡ Good
-formed c = sym (c .before .before .bid-form .ensures) ∙ c .enum-told .given .1
+formed c = sym (c .before .before .form-of .ensures) ∙ c .enum-told .given .1
 
 good : (c : tie.After-enum-told) → let a = c .before .before .before .args in (0 < a .market) × (a .market < 4) × (a .member < 16)
 good c = let a = c .before .before .before .args in bid-places (a .market) (a .member) (a .side) (a .base) (formed c)
 
-bid-form-requires : tie.Need-bid-form-requires
-bid-form-requires c κs = search needs
+form-of-requires : tie.Need-form-of-requires
+form-of-requires c κs = search needs
 
 enum-known-form : tie.Need-enum-known-form
 enum-known-form c = search needs
@@ -68,20 +68,20 @@ returns c =
     let a = start .args in
     c .refused .ensures
     ∙ sym (bid-on (a .x) (a .market) (a .member) (a .block) (reachable-bounded (a .x) (start .pre) .rows) (a .side) (a .base) (a .bound)
-    ∙ after-bad (a .x) _ (sym (c .before .before .before .before .bid-form .ensures) ∙ c .before .before .form .given .1))
+    ∙ after-bad (a .x) _ (sym (c .before .before .before .before .form-of .ensures) ∙ c .before .before .form .given .1))
+
+-- the work, on the parts taken out
+worked : (c : tie.After-bid) →
+    let a = c .before .before .before .before .before .before .before .before .before .args in
+    c .bid .result ≡ bidOn (marketAt (a .x .markets) (a .market)) (rowOf (a .x .ledger) (a .member)) (a .x .last) (a .market) (a .block) (sideOf (a .side)) (a .base) (a .bound)
+worked c = rw (c .bid .ensures, c .before .before .market-at .ensures, c .before .before .before .row-of .ensures, c .before .side-of .ensures)
 
 returns-2 : tie.Need-returns-2
 returns-2 c =
     let start = c .before .before .before .before .before .before .before .before .before .before in
     let a = start .args in
     c .put-traded .ensures
-    ∙ ap (putTraded (a .x) (a .market) (a .member))
-    (c .before .bid .ensures
-    ∙ ap₂ (λ (m : Market) (row : Row). bidOn m row (a .x .last) (a .market) (a .block) (c .before .before .side-of .result) (a .base) (a .bound))
-    (c .before .before .before .market-at .ensures)
-    (c .before .before .before .before .row-of .ensures)
-    ∙ ap (λ (s : Side). bidOn (marketAt (a .x .markets) (a .market)) (rowOf (a .x .ledger) (a .member)) (a .x .last) (a .market) (a .block) s (a .base) (a .bound))
-    (c .before .before .side-of .ensures))
+    ∙ ap (putTraded (a .x) (a .market) (a .member)) (worked (c .before))
     ∙ sym (bid-on (a .x) (a .market) (a .member) (a .block) (reachable-bounded (a .x) (start .pre) .rows) (a .side) (a .base) (a .bound)
     ∙ after-good (a .x) _ (formed (c .before .before .before .before .before .before .before)))
 
@@ -89,7 +89,7 @@ pub bid-spec : {M : Type 1} → statement M
 bid-spec =
     tie.close
     (tie.spec
-    bid-form-requires
+    form-of-requires
     enum-known-form
     refused-requires
     enum-told

@@ -1,5 +1,5 @@
 -- `auction_parts::bid` meets its contract.
-use mathlib.Core.Path.{sym, ap, _∙_}
+use mathlib.Core.Path.{sym, ap}
 use borrow.Author.Needs.{needs}
 use Rattle.model.specs.State.{isAuction}
 use Rattle.auction_parts.proofs.Laws.{bid-elsewhere}
@@ -35,14 +35,14 @@ bid-refused-requires-3 c κs = search needs
 returns : tie.Need-returns
 returns c =
     let s = c .before .before .before .args in
-    c .bid-refused .ensures
-    ∙ sym (bid-elsewhere (s .market) (s .row) (s .last) (s .number) (s .block) (s .side) (s .base) (s .bound) (ap isAuction (c .before .enum-told .given .1)))
+    rw (c .bid-refused .ensures)
+    (sym (bid-elsewhere (s .market) (s .row) (s .last) (s .number) (s .block) (s .side) (s .base) (s .bound) (ap isAuction (c .before .enum-told .given .1))))
 
 returns-2 : tie.Need-returns-2
 returns-2 c =
     let s = c .before .before .before .args in
-    c .bid-refused2 .ensures
-    ∙ sym (bid-elsewhere (s .market) (s .row) (s .last) (s .number) (s .block) (s .side) (s .base) (s .bound) (ap isAuction (c .before .enum-told2 .given .1)))
+    rw (c .bid-refused2 .ensures)
+    (sym (bid-elsewhere (s .market) (s .row) (s .last) (s .number) (s .block) (s .side) (s .base) (s .bound) (ap isAuction (c .before .enum-told2 .given .1))))
 
 returns-3 : tie.Need-returns-3
 returns-3 c = c .bid-auction .ensures
@@ -50,8 +50,8 @@ returns-3 c = c .bid-auction .ensures
 returns-4 : tie.Need-returns-4
 returns-4 c =
     let s = c .before .before .before .args in
-    c .bid-refused3 .ensures
-    ∙ sym (bid-elsewhere (s .market) (s .row) (s .last) (s .number) (s .block) (s .side) (s .base) (s .bound) (ap isAuction (c .before .enum-told3 .given .1)))
+    rw (c .bid-refused3 .ensures)
+    (sym (bid-elsewhere (s .market) (s .row) (s .last) (s .number) (s .block) (s .side) (s .base) (s .bound) (ap isAuction (c .before .enum-told3 .given .1))))
 
 pub bid-spec : {M : Type 1} → statement M
 bid-spec =

@@ -1,14 +1,12 @@
 -- `auction_parts::bid_auction` meets its contract.
-use Prim.Native.Nat.{ℕ}
-use mathlib.Core.Path.{_≡_, sym, ap, ap₂, _∙_}
+use mathlib.Core.Path.{_≡_, sym, _∙_}
 use mathlib.Core.Bool.{false}
 use native.Mathlib.Omega.{arith}
 use borrow.Author.Needs.{needs}
 use borrow.Author.Tests.{ltb-false}
-use Rattle.pricing.specs.declared.Totals.{Totals}
 use Rattle.model.specs.State.{totalsOf}
 use Rattle.model.specs.Calls.{bidQuote, notAvailable, boundMissed}
-use Rattle.auction_parts.specs.Steps.{isOver, tradeOn}
+use Rattle.auction_parts.specs.Steps.{isOver}
 use Rattle.auction_parts.proofs.Laws.{bid-stale, bid-over, bid-unavailable, bid-missed, bid-trades, quote-small}
 use Rattle.auction_parts.proofs.bid_auction.Statement.{statement}
 use Rattle.auction_parts.proofs.bid_auction.Tie as tie
@@ -58,17 +56,12 @@ not-available-requires c κs =
 unavailable : (c : tie.After-not-available) →
     let s = c .before .before .before .before .before .before .before .args in
     c .not-available .result ≡ notAvailable (s .side) (s .base) (bidQuote (s .r) (s .side) (s .block) (s .base)) (totalsOf (s .r) (s .side))
-unavailable c =
-    let s = c .before .before .before .before .before .before .before .args in
-    c .not-available .ensures
-    ∙ ap₂ (λ (q : ℕ) (t : Totals). notAvailable (s .side) (s .base) q t) (c .before .before .quote-at .ensures) (c .before .totals-of .ensures)
+unavailable c = rw (c .not-available .ensures, c .before .before .quote-at .ensures, c .before .totals-of .ensures)
 
 missed : (c : tie.After-bound-missed) →
     let s = c .before .before .before .before .before .before .before .before .before .args in
     c .bound-missed .result ≡ boundMissed (s .side) (bidQuote (s .r) (s .side) (s .block) (s .base)) (s .bound)
-missed c =
-    let s = c .before .before .before .before .before .before .before .before .before .args in
-    c .bound-missed .ensures ∙ ap (λ (q : ℕ). boundMissed (s .side) q (s .bound)) (c .before .before .before .before .quote-at .ensures)
+missed c = rw (c .bound-missed .ensures, c .before .before .before .before .quote-at .ensures)
 
 bid-refused-requires-3 : tie.Need-bid-refused-requires-3
 bid-refused-requires-3 c κs = search needs
@@ -131,14 +124,12 @@ returns-5 : tie.Need-returns-5
 returns-5 c =
     let start = c .before .before .before .before .before .before .before .before .before .before .before in
     let s = start .args in
-    c .trade .ensures
-    ∙ ap (λ (q : ℕ). tradeOn (s .market) (s .row) (s .last) (s .number) (s .block) (s .side) (s .base) q (s .r))
-    (c .before .before .before .before .before .before .quote-at .ensures)
-    ∙ sym (bid-trades (s .market) (s .row) (s .last) (s .number) (s .block) (s .side) (s .base) (s .bound) (s .r) (start .pre .0)
+    rw (c .trade .ensures, c .before .before .before .before .before .before .quote-at .ensures)
+    (sym (bid-trades (s .market) (s .row) (s .last) (s .number) (s .block) (s .side) (s .base) (s .bound) (s .r) (start .pre .0)
     (c .before .before .before .before .before .before .before .before .before .if1 .left)
     (running (c .before .before .before .before .before .before .before))
     (available (c .before))
-    (within (c .before)))
+    (within (c .before))))
 
 pub bid-auction-spec : {M : Type 1} → statement M
 bid-auction-spec =

@@ -1,8 +1,5 @@
 -- `auction_parts::quote_at` meets its contract.
-use mathlib.Core.Path.{ap, _∙_}
 use borrow.Author.Needs.{needs}
-use Rattle.units.specs.declared.Price.{Price}
-use Rattle.pricing.specs.Prices.{quoteFor}
 use Rattle.auction_parts.proofs.quote_at.Statement.{statement}
 use Rattle.auction_parts.proofs.quote_at.Tie as tie
 
@@ -16,9 +13,7 @@ quote-for-requires : tie.Need-quote-for-requires
 quote-for-requires c κs = search needs
 
 returns : tie.Need-returns
-returns c =
-    let s = c .before .before .before .before .args in
-    c .quote-for .ensures ∙ ap (λ (p : Price). quoteFor (s .side) (s .n .0) (p .0)) (c .before .auction-price .ensures)
+returns c = rw (c .quote-for .ensures, c .before .auction-price .ensures)
 
 pub quote-at-spec : {M : Type 1} → statement M
 quote-at-spec = tie.close (tie.spec sub-k auction-price-requires quote-for-requires returns)

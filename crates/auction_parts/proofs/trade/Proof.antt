@@ -72,6 +72,13 @@ traded-row-requires c κs =
       omega (arith, take c, takes-fit (s .r) (s .row) (s .last) (s .number) b (s .side) (s .n .0) (s .q .0) (start .pre .1)),
     )
 
+-- the maker's row, by what the maker gives and takes
+paid : (c : tie.After-traded-row) →
+    let s = c .before .before .before .before .before .before .before .before .args in
+    c .traded-row .result
+    ≡ creditedRow (debitedRow (s .row) (wanted (s .side) (s .number)) (gives (s .side) (s .n .0) (s .q .0))) (offered (s .side) (s .number)) (takes (s .side) (s .n .0) (s .q .0))
+paid c = rw (c .traded-row .ensures, c .before .before .before .before .before .before .before .maker-gives .ensures, c .before .maker-takes .ensures)
+
 traded-round-requires : tie.Need-traded-round-requires
 traded-round-requires c κs =
     let start = c .before .before .before .before .before .before .before .before in
@@ -87,10 +94,7 @@ unfolding traded
 returns-2 c =
     let s = c .before .before .before .before .before .before .before .before .before .args in
     ap₂ (traded (s .at .0) (s .n .0) (s .q .0)) (c .traded-round .ensures)
-    (c .before .traded-row .ensures
-    ∙ ap₂ (λ (g t : ℕ). creditedRow (debitedRow (s .row) (wanted (s .side) (s .number)) g) (offered (s .side) (s .number)) t)
-    (give (c .before .before .before .before .before .before .before .before))
-    (take (c .before .before)))
+    (paid (c .before))
     ∙ sym (trade-done (s .market) (s .row) (s .last) (s .number) (s .at .0) (s .side) (s .n .0) (s .q .0) (s .r) (covered (c .before .before)))
 
 pub trade-spec : {M : Type 1} → statement M

@@ -34,7 +34,7 @@ enum-told-2 c = search needs
 
 loop-holds : tie.Need-loop-holds Inv-loop μ-loop
 loop-holds c =
-    let s = c .before .before .before .before  in
+    let s = c .before .before .before .before in
     let e = c .before .before .before .settle .ensures in
     turn-first _ _ _
     (subst (λ (o : Outcome). Winding (o .exchange) (s .args .market) (marks (o .exchange) (s .args .market))) (sym e)
@@ -48,14 +48,14 @@ enum-told-3 c = search needs
 
 returns-2 : tie.Need-returns-2 Inv-loop μ-loop
 returns-2 c =
-    let s = c .before .before .before .before .before .before .before .before  in
+    let s = c .before .before .before .before .before .before .before .before in
     let l = c .before .before .before .loop in
     let e = c .before .before .before .before .before .before .before .settle .ensures in
     let m = s .args .market in
     subst (λ (o : Outcome). Turn m (o .exchange) 1 (l .state) (l .calls) → Brought (s .args .x) m (s .args .block) (record { answer = o .answer; calls = l .calls; exchange = l .state })) (sym e)
     (λ t.
-      close-accepted (s .args .x) (s .pre) m (s .args .block) _ _ (sym (ap (λ (o : Outcome). o .answer) e) ∙ c .before .before .before .before .enum-told2 .given .1) (l .state) (l .calls) t
-      (sym (c .before .before .next-marked .ensures) ∙ c .enum-told3 .given .1))
+    close-accepted (s .args .x) (s .pre) m (s .args .block) _ _ (sym (ap (λ (o : Outcome). o .answer) e) ∙ c .before .before .before .before .enum-told2 .given .1) (l .state) (l .calls) t
+    (sym (c .before .before .next-marked .ensures) ∙ c .enum-told3 .given .1))
     (l .inv)
 
 enum-known-next : tie.Need-enum-known-next Inv-loop μ-loop

@@ -1,16 +1,21 @@
 -- `forms::call::ticket_form` meets its contract.
-use Rattle.units.proofs.Tests.{tests}
+use native.Mathlib.Omega.{arith}
+use borrow.Author.Tests.{le-ltb, lt-ltb}
 use Rattle.model.specs.Parts.{formOf}
 use Rattle.forms.proofs.call.ticket_form.Statement.{statement}
 use Rattle.forms.proofs.call.ticket_form.Tie as tie
 
 returns : tie.Need-returns
 unfolding formOf
-returns c = search tests
+returns c =
+    let a = c .before .args in
+    rw (lt-ltb 63 (a .ticket) (omega (arith, c .if1 .taken)))
 
 returns-2 : tie.Need-returns-2
 unfolding formOf
-returns-2 c = search tests
+returns-2 c =
+    let a = c .before .args in
+    rw (le-ltb 63 (a .ticket) (omega (arith, c .if1 .left)))
 
 pub ticket-form-spec : {M : Type 1} → statement M
 ticket-form-spec = tie.close (tie.spec returns returns-2)
