@@ -63,10 +63,10 @@ fn order_form(ticket: u32, member: u32, market: u32, side: u32, limit: u32, amou
 }
 
 // Cancel.
-fn cancel_form(ticket: u32, member: u32) -> Form
-    ensures { λ r. ⌜ r ≡ formOf (cancelForm ticket member) ⌝ }
+fn cancel_form(ticket: u32, owner: u32) -> Form
+    ensures { λ r. ⌜ r ≡ formOf (cancelForm ticket owner) ⌝ }
 {
-    if 15 < member {
+    if 15 < owner {
         return Form::Bad(Refusal::NoSuchMember);
     }
     if 63 < ticket {
@@ -104,10 +104,10 @@ fn open_form(market: u32, reference: u32, slack: u32, length: u32) -> Form
 }
 
 // Enter and claim.
-fn ticket_form(ticket: u32) -> Form
-    ensures { λ r. ⌜ r ≡ formOf (ticketForm ticket) ⌝ }
+fn ticket_form(k: u32) -> Form
+    ensures { λ r. ⌜ r ≡ formOf (ticketForm k) ⌝ }
 {
-    if 63 < ticket {
+    if 63 < k {
         return Form::Bad(Refusal::NoSuchTicket);
     }
     Form::Good

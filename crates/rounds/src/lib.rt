@@ -22,11 +22,11 @@ pub fn put_moved(x: Exchange, market: u32, p: Moved) -> Outcome
     ensures { λ r. ⌜ r ≡ putMoved x market p ⌝ }
 {
     let answer = p.answer;
-    let m = p.market;
+    let moved = p.market;
     let last = p.last;
     let n = (market - 1) as usize;
     let mut next = x;
-    next.markets[n] = m;
+    next.markets[n] = moved;
     next.last = last;
     Outcome {
         answer,

@@ -12,11 +12,11 @@ sub-n c = search needs
 cast-n : tie.Need-cast-n
 cast-n c = search needs
 
-mul-m : tie.Need-mul-m
-mul-m c = search needs
+mul-moved : tie.Need-mul-moved
+mul-moved c = search needs
 
-element-set-from-m : tie.Need-element-set-from-m
-element-set-from-m c = search needs
+element-set-from-moved : tie.Need-element-set-from-moved
+element-set-from-moved c = search needs
 
 returns : tie.Need-returns
 returns c =
@@ -24,4 +24,4 @@ returns c =
     rw (sym (set-market-place (a .x .markets) (a .market) (a .p .market) (omega arith)))
 
 pub put-moved-spec : {M : Type 1} → statement M
-put-moved-spec = tie.close (tie.spec sub-n cast-n mul-m element-set-from-m returns)
+put-moved-spec = tie.close (tie.spec sub-n cast-n mul-moved element-set-from-moved returns)
