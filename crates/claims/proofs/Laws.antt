@@ -20,7 +20,7 @@ use Rattle.model.specs.State.{marketAt}
 use Rattle.model.specs.Calls.{refuse, claimOf}
 use Rattle.model.specs.Run.{Reachable}
 use Rattle.model.specs.Bounds.{PayBounds}
-use Rattle.model.specs.Parts.{ticketForm, formOf, marketIn, memberIn, residueAt, ticketAt, claimOn, putClaimed}
+use Rattle.model.specs.Parts.{ticketForm, formOf, ticketMarket, ticketMember, residueAt, ticketAt, claimOn, putClaimed}
 use Rattle.model.proofs.ReachBounds.{reachable-bounded}
 use Rattle.model.proofs.OnParts.{after-bad, after-good, ticket-place, claim-on}
 use Rattle.model.proofs.PartBounds.{ticket-places, pay-bounds}
@@ -32,7 +32,7 @@ module _ (x : Exchange) (reach : Reachable x) (k : ℕ) (form : Form) (ef : form
   pub ticket-below : form ≡ Good → k < 64
   ticket-below good = ticket-place k (sym ef ∙ good)
 
-  module _ (good : form ≡ Good) (t : Ticket) (market member : ℕ) (et : t ≡ ticketAt x k) (em : market ≡ marketIn (t .state)) (en : member ≡ memberIn (t .state)) where
+  module _ (good : form ≡ Good) (t : Ticket) (market member : ℕ) (et : t ≡ ticketAt x k) (em : market ≡ ticketMarket (t .state)) (en : member ≡ ticketMember (t .state)) where
     pub claim-places : (k < 64) × (0 < market) × (market < 4) × (member < 16)
     claim-places =
         let p = ticket-places x (reachable-bounded x reach) k (ticket-below good) in
@@ -46,7 +46,7 @@ module _ (x : Exchange) (reach : Reachable x) (k : ℕ) (form : Form) (ef : form
         claim-bounds o r es ep =
             rw (er, eq, eb, en, em, es)
             (pay-bounds x (reachable-bounded x reach) k (ticket-below good) o r (ap (λ (s : Ticket). s .state) (sym et) ∙ es)
-            (ap (λ (s : TicketState). marketAt (x .markets) (marketIn s) .phase) (sym es) ∙ ap (λ (n : ℕ). marketAt (x .markets) n .phase) (sym em) ∙ ap (λ (s : Market). s .phase) (sym ek) ∙ ep))
+            (ap (λ (s : TicketState). marketAt (x .markets) (ticketMarket s) .phase) (sym es) ∙ ap (λ (n : ℕ). marketAt (x .markets) n .phase) (sym em) ∙ ap (λ (s : Market). s .phase) (sym ek) ∙ ep))
 
         pub claim-put : (p : Claimed) → p ≡ claimOn t m row quote base k → putClaimed x k market member p ≡ claimOf x k
         claim-put p ep =

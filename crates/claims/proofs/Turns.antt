@@ -10,8 +10,6 @@ use Rattle.ticket_set.proofs.Least.{next-of-empty}
 use Rattle.ticket_set.proofs.Members.{members-next, members-nothing, members-length}
 use Rattle.model.specs.declared.state.Exchange.{Exchange}
 use Rattle.model.specs.declared.state.Market.{Market}
-use Rattle.model.specs.declared.state.Phase.{Phase}
-use Rattle.model.specs.declared.state.Phase.the-variants.{Closed}
 use Rattle.model.specs.declared.call.Call.{Call}
 use Rattle.model.specs.declared.call.Call.the-variants as Call
 use Rattle.model.specs.declared.answer.Answer.{Answer}
@@ -21,11 +19,10 @@ use Rattle.model.specs.State.{closedMarket, phase, roundIn}
 use Rattle.model.specs.Answers.{codeOf}
 use Rattle.model.specs.Calls.{settleOf, claimOf}
 use Rattle.model.specs.Run.{Reachable, stepOf}
-use Rattle.model.specs.Closing.{afterCalls, closingCalls}
+use Rattle.model.specs.Closing.{BackToClosed, afterCalls, closingCalls}
 use Rattle.model.specs.Bounds.{Bounded}
 use Rattle.model.proofs.Codes.{refusal-code}
 use Rattle.model.proofs.WindUp.{Winding, winding-settled, winding-tickets, winding-next, settle-closes, members-named}
-use Rattle.claims.specs.declared.closing.Closing.{Closing}
 use Rattle.claims.specs.Closings.{nextMarked, closedBy, closeOf, Brought}
 
 -- ---- the next marked ticket
@@ -108,6 +105,7 @@ close-refused x market at a w ea ew =
     record {
       is = ap (λ (b : Answer). record { answer = b; calls = 0; exchange = x }) ew ∙ ap (closedBy x market at) (sym ew ∙ ea);
       at-most = omega arith;
+      accepted = λ z. absurd (no-code ew z);
       closed = λ z. absurd (no-code ew z);
     }
   where
@@ -139,13 +137,14 @@ module _ (x : Exchange) (l : Reachable x) (market at p q : ℕ) (e : settleOf x 
         ap (λ (s : ℕ). length (membersOf s)) same-marks,
         length-map (membersOf (marks x market)) Call.Claim,
       ) in
+      let back : BackToClosed x market at (membersOf (marks x market)) =
+      settle-closes x l market at p q e (membersOf (marks x market)) (members-named (marks x market) (winding-settled x l market at p q e .small)) in
       record {
         is =
             ap (λ (a : Answer). record { answer = a; calls = n; exchange = y }) e
             ∙ ap₂ (λ (c : ℕ) (v : Exchange). record { answer = Accepted p q; calls = c; exchange = v }) count state
             ∙ ap (closedBy x market at) (sym e);
         at-most = turn-bound market (settleOf x market at .exchange) 1 y n t;
-        closed = λ z.
-            ap (λ (v : Exchange). phase v market) state
-            ∙ settle-closes x l market at p q e (membersOf (marks x market)) (members-named (marks x market) (winding-settled x l market at p q e .small)) .closed;
+        accepted = λ z. back .accepted;
+        closed = λ z. ap (λ (v : Exchange). phase v market) state ∙ back .closed;
       }

@@ -11,7 +11,7 @@ use Rattle.model.specs.declared.answer.Answer.the-variants.{Accepted, Refused}
 use Rattle.model.specs.State.{phase, roundIn}
 use Rattle.model.specs.Answers.{codeOf}
 use Rattle.model.specs.Calls.{settleOf}
-use Rattle.model.specs.Closing.{afterCalls, closingCalls}
+use Rattle.model.specs.Closing.{AllAccepted, afterCalls, closingCalls}
 use Rattle.claims.specs.declared.closing.Closing.{Closing}
 
 -- the least ticket that a market's round marks; a market that there is not marks none
@@ -32,8 +32,9 @@ closedBy x market at (Refused why) = record { answer = Refused why; calls = 0; e
 unfoldable pub closeOf : Exchange → ℕ → ℕ → Closing
 closeOf x market at = closedBy x market at (settleOf x market at .answer)
 
--- and then the market is closed, after "never more than 65 accepted calls"
+-- where the settle is accepted, so is every claim, and the market is closed, after "never more than 65 accepted calls"
 pub record Brought (x : Exchange) (market at : ℕ) (r : Closing) : Type 0 where
   pub is : r ≡ closeOf x market at
   pub at-most : r .calls ≤ 65
+  pub accepted : codeOf (r .answer) ≡ 0 → AllAccepted x (closingCalls x market at)
   pub closed : codeOf (r .answer) ≡ 0 → phase (r .exchange) market ≡ Closed

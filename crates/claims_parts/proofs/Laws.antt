@@ -1,9 +1,9 @@
 -- Laws of a claim on its parts.
 use Prim.Native.Nat.{ℕ, _+_, _-_, _≤_, _<_}
-use mathlib.Core.Path.{_≡_, refl, sym, ap, subst, _∙_}
+use mathlib.Core.Path.{_≡_, ap, _∙_}
 use mathlib.Core.Bool.{false}
 use native.Mathlib.Omega.{arith}
-use borrow.Author.Tests.{eq-eqb, ne-eqb, ltb-false}
+use borrow.Author.Tests.{eq-eqb, ne-eqb}
 use Rattle.units.specs.declared.Amount.{Amount}
 use Rattle.units.specs.Counts.{amount, largest}
 use Rattle.ticket_set.specs.TicketSet.{countOf}
@@ -14,33 +14,23 @@ use Rattle.pricing.specs.declared.Share.{Share}
 use Rattle.pricing.specs.Prices.{shareOf}
 use Rattle.ledger.specs.declared.Row.{Row}
 use Rattle.ledger.specs.declared.RowPosting.{RowPosting}
-use Rattle.ledger.specs.Balances.{cellOf, creditedRow, rowOf}
+use Rattle.ledger.specs.Balances.{cellOf, creditedRow}
 use Rattle.ledger.specs.Postings.{creditRowOf}
 use Rattle.ledger.proofs.Laws.{credit-row-done}
 use Rattle.model.specs.declared.state.Order.{Order}
 use Rattle.model.specs.declared.state.Ticket.{Ticket}
-use Rattle.model.specs.declared.state.TicketState.{TicketState}
 use Rattle.model.specs.declared.state.TicketState.the-variants.{Free, Resting, Entered}
 use Rattle.model.specs.declared.state.Round.{Round}
 use Rattle.model.specs.declared.state.Phase.the-variants.{Paying}
 use Rattle.model.specs.declared.state.Market.{Market}
-use Rattle.model.specs.declared.state.Exchange.{Exchange}
 use Rattle.model.specs.declared.answer.Answer.the-variants.{Accepted}
-use Rattle.model.specs.declared.answer.Refusal.{Refusal}
 use Rattle.model.specs.declared.answer.Refusal.the-variants.{NoSuchOrder, WrongTicketState, WrongPhase}
-use Rattle.model.specs.declared.parts.Form.{Form}
-use Rattle.model.specs.declared.parts.Form.the-variants.{Good, Bad}
-use Rattle.model.specs.declared.parts.Claimed.{Claimed}
 use Rattle.model.specs.Sides.{other, bySide, wanted}
-use Rattle.model.specs.State.{closedMarket, restingOr, isPaying, totalsOf, marketAt}
-use Rattle.model.specs.Calls.{refuse, claimedRound, claimOf}
-use Rattle.model.specs.Run.{Reachable}
-use Rattle.model.specs.Bounds.{PayBounds, heldIn, shareIn, gotIn}
-use Rattle.model.specs.Parts.{ticketForm, formOf, byForm, marketIn, memberIn, residueAt, ticketAt, unclaimed, paidOn, claimOn, putClaimed}
+use Rattle.model.specs.State.{closedMarket, restingOr, isPaying, totalsOf}
+use Rattle.model.specs.Calls.{claimedRound}
+use Rattle.model.specs.Bounds.{heldIn, shareIn, gotIn}
+use Rattle.model.specs.Parts.{unclaimed, paidOn, claimOn}
 use Rattle.model.proofs.Frames.{wanted-lt}
-use Rattle.model.proofs.ReachBounds.{reachable-bounded}
-use Rattle.model.proofs.OnParts.{form-good, claim-on}
-use Rattle.model.proofs.PartBounds.{ticket-places, pay-bounds}
 
 -- ---- the parts that a claim leaves
 

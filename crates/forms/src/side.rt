@@ -1,4 +1,4 @@
-// Sides, and a market's tokens. Token 0 is the quote, and market n's base is token n.
+// Sides, their totals, and a market's tokens. Token 0 is the quote, and market n's base is token n.
 ghost use mathlib.Core.Path.{_≡_};
 ghost use Rattle.model.specs.Sides.{sideOf, offered, wanted};
 ghost use Rattle.model.specs.State.{totalsOf};

@@ -1,6 +1,6 @@
 -- Each call is its form, then its work on the parts that it touches, with the parts put back.
 use Prim.Native.Nat.{ℕ, zero, suc, _+_, _-_, _≤_, _<_}
-use mathlib.Core.Path.{_≡_, refl, sym, ap, ap₂, subst, _∙_}
+use mathlib.Core.Path.{_≡_, refl, sym, ap, ap₂, _∙_}
 use mathlib.Core.Bool.{Bool, true, false, cond, _||_, _&&_, not}
 use mathlib.Core.List.{List, [], _∷_, _++_}
 use native.Mathlib.Omega.{arith}
@@ -9,7 +9,6 @@ use lib.ListN.{getD, set, length}
 use lib.Seq.{set-getD, getD-set-other}
 use borrow.Author.Tests.{eqb-true, ltb-false, not-false}
 use Rattle.units.specs.declared.Amount.{Amount}
-use Rattle.units.specs.declared.Block.{Block}
 use Rattle.units.specs.Counts.{amount, block, largest}
 use Rattle.units.specs.Decide.{Test, when, decide}
 use Rattle.units.proofs.Decide.{Passed, decide-split, decide-carried, passed-by, or-false}
@@ -18,7 +17,7 @@ use Rattle.pricing.specs.declared.Side.{Side}
 use Rattle.pricing.specs.Prices.{offLimit}
 use Rattle.ledger.specs.declared.Row.{Row}
 use Rattle.ledger.specs.declared.Ledger.{Ledger}
-use Rattle.ledger.specs.Balances.{cellOf, creditedRow, debitedRow, rowOf, withRow, balanceIn, credited, debited, Shaped}
+use Rattle.ledger.specs.Balances.{cellOf, creditedRow, debitedRow, rowOf, withRow, credited, debited, Shaped}
 use Rattle.ledger.proofs.Laws.{balance-row, credited-row, debited-row, row-same, row-again, put-back}
 use Rattle.model.specs.declared.state.Order.{Order}
 use Rattle.model.specs.declared.state.Ticket.{Ticket}
@@ -26,7 +25,7 @@ use Rattle.model.specs.declared.state.TicketState.{TicketState}
 use Rattle.model.specs.declared.state.TicketState.the-variants.{Free, Resting, Entered}
 use Rattle.model.specs.declared.state.Round.{Round}
 use Rattle.model.specs.declared.state.Phase.{Phase}
-use Rattle.model.specs.declared.state.Phase.the-variants.{Closed, Collect, Auction, Paying}
+use Rattle.model.specs.declared.state.Phase.the-variants.{Closed, Auction, Paying}
 use Rattle.model.specs.declared.state.Market.{Market}
 use Rattle.model.specs.declared.state.Exchange.{Exchange}
 use Rattle.model.specs.declared.answer.Answer.the-variants.{Accepted, Refused}
@@ -35,17 +34,11 @@ use Rattle.model.specs.declared.answer.Refusal.{Refusal}
 use Rattle.model.specs.declared.answer.Refusal.the-variants.{TicketInUse, NoSuchOrder, WrongTicketState, WrongPhase, StaleBlock, TooEarly, SupplyExceeded, LimitOutOfBounds, AuctionOver, NotAvailable, BoundMissed, InsufficientBalance}
 use Rattle.model.specs.declared.parts.Form.{Form}
 use Rattle.model.specs.declared.parts.Form.the-variants.{Good, Bad}
-use Rattle.model.specs.declared.parts.Banked.{Banked}
-use Rattle.model.specs.declared.parts.Placed.{Placed}
-use Rattle.model.specs.declared.parts.Moved.{Moved}
-use Rattle.model.specs.declared.parts.Joined.{Joined}
-use Rattle.model.specs.declared.parts.Traded.{Traded}
-use Rattle.model.specs.declared.parts.Claimed.{Claimed}
 use Rattle.model.specs.Sides.{sideOf, offered, wanted, gives, takes}
-use Rattle.model.specs.State.{balance, supply, lastBlock, ticket, freeTicket, orderIn, isFree, isEntered, restingOr, phase, closedMarket, roundIn, isClosed, isCollect, isAuction, isPaying, totalsOf, marketAt, setMarket, withTicket, withPhase, credit, toResidue}
-use Rattle.model.specs.Calls.{accept, refuse, above, below, outside, unfilled, notAvailable, boundMissed, bidQuote, bidRound, depositOf, depositDone, withdrawOf, withdrawDone, orderOf, orderDone, cancelOf, cancelDone, openOf, openDone, enterOf, enterWith, enterDone, matchOf, matchDone, bidOf, bidDone, settleOf, settleDone, claimedRound, payingOrClosed, claimOf, claimWith, claimDone}
+use Rattle.model.specs.State.{supply, lastBlock, ticket, freeTicket, orderIn, isFree, isEntered, restingOr, phase, closedMarket, roundIn, isClosed, isCollect, isAuction, isPaying, totalsOf, marketAt, setMarket, withTicket, withPhase, credit, toResidue}
+use Rattle.model.specs.Calls.{accept, refuse, above, below, outside, unfilled, notAvailable, boundMissed, bidQuote, bidRound, depositOf, depositDone, withdrawOf, orderOf, orderDone, cancelOf, cancelDone, openOf, openDone, enterOf, enterWith, enterDone, matchOf, matchDone, bidOf, bidDone, settleOf, settleDone, claimedRound, payingOrClosed, claimOf, claimWith, claimDone}
 use Rattle.model.specs.Bounds.{Bounded, TicketBounds, shareIn, gotIn}
-use Rattle.model.specs.Parts.{bankForm, orderForm, cancelForm, openForm, ticketForm, marketForm, bidForm, formOf, byForm, marketIn, memberIn, supplyAt, residueAt, ticketAt, unbanked, depositedOn, depositOn, withdrawnOn, withdrawOn, putBanked, unplaced, orderFrom, orderedOn, orderOn, cancelledOn, cancelOn, putPlaced, unmoved, openedOn, openOn, matchedOn, matchOn, settledOn, settleOn, putMoved, unjoined, enteredOn, enterOn, putJoined, untraded, tradedOn, bidOn, putTraded, unclaimed, paidOn, claimOn, putClaimed}
+use Rattle.model.specs.Parts.{bankForm, orderForm, cancelForm, openForm, ticketForm, marketForm, bidForm, formOf, byForm, ticketMarket, ticketMember, supplyAt, residueAt, ticketAt, unbanked, depositedOn, depositOn, withdrawnOn, withdrawOn, putBanked, unplaced, orderFrom, orderedOn, orderOn, cancelledOn, cancelOn, putPlaced, unmoved, openedOn, openOn, matchedOn, matchOn, settledOn, settleOn, putMoved, unjoined, enteredOn, enterOn, putJoined, untraded, tradedOn, bidOn, putTraded, unclaimed, paidOn, claimOn, putClaimed}
 use Rattle.model.proofs.Frames.{inside}
 
 -- ---- forms
@@ -247,7 +240,7 @@ enterRest s p =
 
 enter-ticket : (x : Exchange) (k : ℕ) (s : TicketState) → ticketAt x k ≡ record { state = s }
     → decide (enterRest s (phase x (orderIn s .market))) (refuse x) (enterWith x k (orderIn s) (roundIn (phase x (orderIn s .market))))
-    ≡ putJoined x k (marketIn s) (enterOn (record { state = s }) (marketAt (x .markets) (marketIn s)) k)
+    ≡ putJoined x k (ticketMarket s) (enterOn (record { state = s }) (marketAt (x .markets) (ticketMarket s)) k)
 unfolding enterRest enterOn
 enter-ticket x k Free e = sym (join-back x k Free e 1 NoSuchOrder)
 enter-ticket x k (Resting o) e =
@@ -258,7 +251,7 @@ enter-ticket x k (Resting o) e =
 enter-ticket x k (Entered o) e = sym (join-back x k (Entered o) e (o .market) WrongTicketState)
 
 pub enter-on : (x : Exchange) (k : ℕ)
-    → enterOf x k ≡ byForm (formOf (ticketForm k)) (refuse x) (putJoined x k (marketIn (ticket x k)) (enterOn (ticketAt x k) (marketAt (x .markets) (marketIn (ticket x k))) k))
+    → enterOf x k ≡ byForm (formOf (ticketForm k)) (refuse x) (putJoined x k (ticketMarket (ticket x k)) (enterOn (ticketAt x k) (marketAt (x .markets) (ticketMarket (ticket x k))) k))
 unfolding enterOf enterRest
 enter-on x k = on-form x (ticketForm k) (enterRest (ticket x k) (phase x (orderIn (ticket x k) .market))) (enterDone x k) _ (λ f. enter-ticket x k (ticket x k) refl)
 
@@ -366,8 +359,8 @@ claimRest s p =
 
 claim-ticket : (x : Exchange) (k : ℕ) (s : TicketState) → ticketAt x k ≡ record { state = s } → TicketBounds s
     → decide (claimRest s (phase x (orderIn s .market))) (refuse x) (claimWith x k (orderIn s) (roundIn (phase x (orderIn s .market))))
-    ≡ putClaimed x k (marketIn s) (memberIn s)
-    (claimOn (record { state = s }) (marketAt (x .markets) (marketIn s)) (rowOf (x .ledger) (memberIn s)) (residueAt x 0) (residueAt x (marketIn s)) k)
+    ≡ putClaimed x k (ticketMarket s) (ticketMember s)
+    (claimOn (record { state = s }) (marketAt (x .markets) (ticketMarket s)) (rowOf (x .ledger) (ticketMember s)) (residueAt x 0) (residueAt x (ticketMarket s)) k)
 unfolding claimRest claimOn
 claim-ticket x k Free e b = sym (claim-back x k Free e 1 0 NoSuchOrder)
 claim-ticket x k (Resting o) e b = sym (claim-back x k (Resting o) e (o .market) (o .member) WrongTicketState)
@@ -384,8 +377,8 @@ claim-ticket x k (Entered o) e b =
 pub claim-on : (x : Exchange) → Bounded x → (k : ℕ)
     → claimOf x k
     ≡ byForm (formOf (ticketForm k)) (refuse x)
-    (putClaimed x k (marketIn (ticket x k)) (memberIn (ticket x k))
-    (claimOn (ticketAt x k) (marketAt (x .markets) (marketIn (ticket x k))) (rowOf (x .ledger) (memberIn (ticket x k))) (residueAt x 0) (residueAt x (marketIn (ticket x k))) k))
+    (putClaimed x k (ticketMarket (ticket x k)) (ticketMember (ticket x k))
+    (claimOn (ticketAt x k) (marketAt (x .markets) (ticketMarket (ticket x k))) (rowOf (x .ledger) (ticketMember (ticket x k))) (residueAt x 0) (residueAt x (ticketMarket (ticket x k))) k))
 unfolding claimOf claimRest
 claim-on x b k =
     on-form x (ticketForm k) (claimRest (ticket x k) (phase x (orderIn (ticket x k) .market))) (claimDone x k) _ (λ f.

@@ -3,8 +3,7 @@ use Prim.Native.Nat.{ℕ, _+_, _≤_, _<_}
 use mathlib.Core.Path.{_≡_, refl, sym, ap, subst, _∙_}
 use native.Mathlib.Omega.{arith}
 use Rattle.units.specs.Counts.{largest}
-use Rattle.units.specs.Sums.{only}
-use Rattle.units.proofs.Sums.{only-same, only-other}
+use Rattle.units.proofs.Sums.{only-same}
 use Rattle.pricing.specs.declared.Side.{Side}
 use Rattle.pricing.specs.declared.Side.the-variants.{Buy, Sell}
 use Rattle.ledger.specs.Balances.{cellOf, rowOf}
@@ -17,14 +16,14 @@ use Rattle.model.specs.declared.state.Phase.{Phase}
 use Rattle.model.specs.declared.state.Phase.the-variants.{Collect, Auction, Paying}
 use Rattle.model.specs.declared.state.Exchange.{Exchange}
 use Rattle.model.specs.Sides.{other, offered, wanted}
-use Rattle.model.specs.State.{balance, supply, residue, ticket, phase, roundIn, totalsOf, marketAt}
+use Rattle.model.specs.State.{balance, supply, residue, ticket, phase, roundIn, marketAt}
 use Rattle.model.specs.WholeRun.{restingIn}
-use Rattle.model.specs.Bounds.{Bounded, OrderBounds, TicketBounds, RoundBounds, CollectBounds, AuctionBounds, PhaseBounds, BankBounds, CancelBounds, EnterBounds, MatchBounds, BidBounds, PayBounds, heldIn, heldOf}
-use Rattle.model.specs.Parts.{marketIn, memberIn, supplyAt, residueAt, ticketAt}
-use Rattle.model.proofs.Frames.{offered-lt, wanted-lt}
+use Rattle.model.specs.Bounds.{Bounded, OrderBounds, TicketBounds, PhaseBounds, BankBounds, CancelBounds, EnterBounds, MatchBounds, BidBounds, PayBounds, heldIn, heldOf}
+use Rattle.model.specs.Parts.{ticketMarket, ticketMember, supplyAt, residueAt, ticketAt}
+use Rattle.model.proofs.Frames.{offered-lt}
 
 -- a ticket's places are places of the state
-ticket-in : (s : TicketState) → TicketBounds s → (0 < marketIn s) × (marketIn s < 4) × (memberIn s < 16)
+ticket-in : (s : TicketState) → TicketBounds s → (0 < ticketMarket s) × (ticketMarket s < 4) × (ticketMember s < 16)
 ticket-in Free b = (omega arith, omega arith, omega arith)
 ticket-in (Resting o) b = (b .market-low, b .market-high, b .member)
 ticket-in (Entered o) b = (b .market-low, b .market-high, b .member)
@@ -35,7 +34,7 @@ held-le r Buy n pos = omega (arith, only-same 0 (heldIn r Buy))
 held-le r Sell n pos = omega (arith, only-same n (heldIn r Sell))
 
 module _ (x : Exchange) (b : Bounded x) where
-  pub ticket-places : (k : ℕ) → k < 64 → (0 < marketIn (ticket x k)) × (marketIn (ticket x k) < 4) × (memberIn (ticket x k) < 16)
+  pub ticket-places : (k : ℕ) → k < 64 → (0 < ticketMarket (ticket x k)) × (ticketMarket (ticket x k) < 4) × (ticketMember (ticket x k) < 16)
   ticket-places k hk = ticket-in (ticket x k) (b .ticket-bounds k hk)
 
   -- a balance, a round's holding and the residue of one token
@@ -76,10 +75,10 @@ module _ (x : Exchange) (b : Bounded x) where
   cancel-bounds m k hm hk o e =
       (subst TicketBounds e (b .ticket-bounds k hk) .market-high, omega (arith, rest-beside k hk o e m hm))
 
-  pub enter-bounds : (k : ℕ) → k < 64 → EnterBounds (ticketAt x k) (marketAt (x .markets) (marketIn (ticket x k)))
+  pub enter-bounds : (k : ℕ) → k < 64 → EnterBounds (ticketAt x k) (marketAt (x .markets) (ticketMarket (ticket x k)))
   enter-bounds k hk o r e ep =
       let ok : OrderBounds o = subst TicketBounds e (b .ticket-bounds k hk) in
-      let ep1 : phase x (o .market) ≡ Collect r = sym (ap (λ (s : TicketState). phase x (marketIn s)) e) ∙ ep in
+      let ep1 : phase x (o .market) ≡ Collect r = sym (ap (λ (s : TicketState). phase x (ticketMarket s)) e) ∙ ep in
       let cb = subst PhaseBounds ep1 (b .phase-bounds (o .market) (ok .market-low) (ok .market-high)) in
       let w = rest-beside k hk o e 0 (omega arith) in
       let h : heldIn (roundIn (phase x (o .market))) (o .side) ≡ heldIn r (o .side) = ap (λ (p : Phase). heldIn (roundIn p) (o .side)) ep1 in

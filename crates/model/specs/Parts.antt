@@ -13,7 +13,7 @@ use Rattle.ticket_set.specs.TicketSet.{countOf}
 use Rattle.pricing.specs.declared.Side.{Side}
 use Rattle.pricing.specs.Prices.{offLimit, highBound, lowBound}
 use Rattle.ledger.specs.declared.Row.{Row}
-use Rattle.ledger.specs.Balances.{cellOf, creditedRow, debitedRow, rowOf, withRow}
+use Rattle.ledger.specs.Balances.{cellOf, creditedRow, debitedRow, withRow}
 use Rattle.model.specs.declared.state.Order.{Order}
 use Rattle.model.specs.declared.state.Ticket.{Ticket}
 use Rattle.model.specs.declared.state.TicketState.{TicketState}
@@ -37,7 +37,7 @@ use Rattle.model.specs.declared.parts.Joined.{Joined}
 use Rattle.model.specs.declared.parts.Traded.{Traded}
 use Rattle.model.specs.declared.parts.Claimed.{Claimed}
 use Rattle.model.specs.Sides.{sideOf, offered, wanted, gives, takes}
-use Rattle.model.specs.State.{orderIn, isFree, isEntered, restingOr, freeTicket, roundIn, isClosed, isCollect, isAuction, isPaying, totalsOf, marketAt, setMarket}
+use Rattle.model.specs.State.{orderIn, isFree, isEntered, restingOr, freeTicket, roundIn, isClosed, isCollect, isAuction, isPaying, totalsOf, setMarket}
 use Rattle.model.specs.Calls.{above, below, outside, openedRound, enteredRound, tradeOf, matchedRound, bidQuote, notAvailable, boundMissed, bidRound, unfilled, settledPhase, claimedRound}
 use Rattle.model.specs.Bounds.{shareIn, gotIn}
 
@@ -107,14 +107,14 @@ byForm (Bad r) refuse out = refuse r
 -- ---- a ticket's places
 
 -- the market of a ticket; a free one, which every call on it refuses, is given market 1
-abbrev pub marketIn : TicketState → ℕ
-marketIn Free = 1
-marketIn (Resting o) = o .market
-marketIn (Entered o) = o .market
+abbrev pub ticketMarket : TicketState → ℕ
+ticketMarket Free = 1
+ticketMarket (Resting o) = o .market
+ticketMarket (Entered o) = o .market
 
 -- and the member, 0 where it is free
-abbrev pub memberIn : TicketState → ℕ
-memberIn t = orderIn t .member
+abbrev pub ticketMember : TicketState → ℕ
+ticketMember t = orderIn t .member
 
 -- ---- parts taken out
 
@@ -390,7 +390,7 @@ unclaimed ticket market row quote base why =
 abbrev pub sweptInto : Amount → Round → Amount → Amount
 sweptInto cell r held = cond (eqb (countOf (r .tickets)) 0) (amount (cell .0 + held .0)) cell
 
--- ticket k of order o is paid s and got out of round r, which leaves it as r
+-- order o is paid s and got; r is its round after that
 abbrev pub paidOn : Row → Amount → Amount → Order → ℕ → ℕ → Round → Claimed
 paidOn row quote base o s got r =
     record {

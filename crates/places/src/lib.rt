@@ -1,4 +1,4 @@
-// Parts of the state by their place. Public for the crates above, which ask for a place that there is.
+// Parts of the state by their place, and a refusal, which leaves it. Public for the crates above, which ask for a place that there is.
 ghost use mathlib.Core.Path.{_≡_};
 ghost use Prim.Native.Nat.{_<_};
 ghost use Rattle.model.specs.State.{marketAt};

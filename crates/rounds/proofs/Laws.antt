@@ -7,12 +7,12 @@ use Rattle.model.specs.declared.state.Exchange.{Exchange}
 use Rattle.model.specs.State.{ticket, marketAt}
 use Rattle.model.specs.Run.{Reachable}
 use Rattle.model.specs.Bounds.{EnterBounds, MatchBounds}
-use Rattle.model.specs.Parts.{marketIn, ticketAt}
+use Rattle.model.specs.Parts.{ticketMarket, ticketAt}
 use Rattle.model.proofs.PartBounds.{enter-bounds, match-bounds}
 use Rattle.model.proofs.ReachBounds.{reachable-bounded}
 
 -- what enter asks of a ticket and its market holds of those taken out
-pub enter-asks : (x : Exchange) → Reachable x → (k : ℕ) → k < 64 → (t : Ticket) (m : Market) → t ≡ ticketAt x k → m ≡ marketAt (x .markets) (marketIn (ticket x k)) → EnterBounds t m
+pub enter-asks : (x : Exchange) → Reachable x → (k : ℕ) → k < 64 → (t : Ticket) (m : Market) → t ≡ ticketAt x k → m ≡ marketAt (x .markets) (ticketMarket (ticket x k)) → EnterBounds t m
 enter-asks x reached k h t m e f = rw (e, f) (enter-bounds x (reachable-bounded x reached) k h)
 
 -- and what match asks of a market

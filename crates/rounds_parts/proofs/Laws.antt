@@ -1,14 +1,12 @@
 -- What open, enter and match on parts come to, case by case, and what their forms say.
 use Prim.Native.Nat.{ℕ, _+_, _≤_, _<_}
 use mathlib.Core.Path.{_≡_, refl}
-use mathlib.Core.Bool.{true, false, _||_}
+use mathlib.Core.Bool.{true, false}
 use native.Mathlib.Nat.{add-zero}
-use native.Mathlib.Omega.{arith}
-use borrow.Author.Tests.{lt-ltb, le-ltb, ltb-false}
+use borrow.Author.Tests.{lt-ltb, le-ltb}
 use Rattle.units.specs.declared.Block.{Block}
 use Rattle.units.specs.declared.Price.{Price}
 use Rattle.units.specs.Counts.{amount, price, block}
-use Rattle.units.proofs.Decide.{or-false}
 use Rattle.ticket_set.specs.TicketSet.{inserted}
 use Rattle.pricing.specs.declared.Side.{Side}
 use Rattle.pricing.specs.declared.Side.the-variants.{Buy, Sell}
@@ -21,22 +19,13 @@ use Rattle.model.specs.declared.state.TicketState.the-variants.{Free, Resting, 
 use Rattle.model.specs.declared.state.Round.{Round}
 use Rattle.model.specs.declared.state.Phase.the-variants.{Collect, Auction}
 use Rattle.model.specs.declared.state.Market.{Market}
-use Rattle.model.specs.declared.state.Exchange.{Exchange}
-use Rattle.model.specs.declared.parts.Form.{Form}
-use Rattle.model.specs.declared.parts.Form.the-variants.{Good, Bad}
 use Rattle.model.specs.declared.parts.Moved.{Moved}
 use Rattle.model.specs.declared.parts.Joined.{Joined}
 use Rattle.model.specs.declared.answer.Answer.the-variants.{Accepted}
-use Rattle.model.specs.declared.answer.Refusal.{Refusal}
 use Rattle.model.specs.declared.answer.Refusal.the-variants.{NoSuchOrder, WrongTicketState, WrongPhase, StaleBlock, TooEarly, LimitOutOfBounds}
-use Rattle.model.specs.State.{ticket, noTotals, marketAt, isClosed, isCollect, totalsOf, withTickets, withHeld, withSides}
-use Rattle.model.specs.Calls.{above, below, outside, plusTotal, enteredRound, matchedRound}
-use Rattle.model.specs.Run.{Reachable}
-use Rattle.model.specs.Bounds.{EnterBounds, MatchBounds}
-use Rattle.model.specs.Parts.{openForm, ticketForm, marketForm, formOf, byForm, marketIn, ticketAt, unmoved, openedOn, openOn, matchedOn, matchOn, unjoined, enteredOn, enterOn}
-use Rattle.model.proofs.OnParts.{form-good}
-use Rattle.model.proofs.PartBounds.{enter-bounds, match-bounds}
-use Rattle.model.proofs.ReachBounds.{reachable-bounded}
+use Rattle.model.specs.State.{ticket, noTotals, isClosed, isCollect, totalsOf, withTickets, withHeld, withSides}
+use Rattle.model.specs.Calls.{plusTotal, enteredRound, matchedRound}
+use Rattle.model.specs.Parts.{unmoved, openedOn, openOn, matchedOn, matchOn, unjoined, enteredOn, enterOn}
 
 -- ---- 5 open
 

@@ -1,4 +1,3 @@
 pub mod Rounding
 pub mod Sums
 pub mod Decide
-pub mod Tests

@@ -1,7 +1,6 @@
 -- `accounts::order` meets its contract.
 use mathlib.Core.Path.{sym, ap, ap₂, _∙_, _≡_}
 use Rattle.model.specs.declared.parts.Form.the-variants.{Good}
-use Rattle.model.proofs.ReachBounds.{reachable-bounded}
 use Prim.Native.Nat.{_<_}
 use Rattle.units.specs.Counts.{amount, price}
 use Rattle.pricing.specs.declared.Side.{Side}

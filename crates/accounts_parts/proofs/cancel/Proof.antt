@@ -1,18 +1,10 @@
 -- `accounts_parts::cancel` meets its contract.
 use Rattle.accounts_parts.proofs.Laws.{cancel-free, cancel-resting-other, cancel-entered-other, cancel-entered-own, cancel-resting-own}
-use mathlib.Core.Path.{sym, ap, ap₂, subst, _∙_, _≡_, refl}
+use mathlib.Core.Path.{sym, _∙_}
 use native.Mathlib.Omega.{arith}
-use borrow.Author.Tests.{lt-ltb, le-ltb, ne-eqb, eq-eqb}
-use Prim.Native.Nat.{ℕ, _+_, _≤_, _<_}
-use mathlib.Core.Bool.{Bool, true, false, not}
-use Rattle.units.specs.declared.Amount.{Amount}
-use Rattle.units.specs.Counts.{largest}
-use Rattle.ledger.specs.Balances.{cellOf}
 use Rattle.model.specs.Sides.{offered}
-use Rattle.model.specs.State.{isFree}
 use Rattle.model.proofs.Frames.{offered-lt}
 use Rattle.ledger.proofs.Laws.{credit-row-done}
-use Rattle.model.specs.Parts.{cancelOn}
 use borrow.Author.Needs.{needs}
 use Rattle.accounts_parts.proofs.cancel.Statement.{statement}
 use Rattle.accounts_parts.proofs.cancel.Tie as tie

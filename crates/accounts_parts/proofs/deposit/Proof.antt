@@ -1,11 +1,9 @@
 -- `accounts_parts::deposit` meets its contract.
-use Prim.Native.Nat.{_≤_}
-use mathlib.Core.Path.{sym, ap, ap₂, _∙_}
+use Prim.Native.Nat.{_≤_, _+_}
+use mathlib.Core.Path.{_∙_}
 use native.Mathlib.Omega.{arith}
-use borrow.Author.Tests.{lt-ltb, le-ltb}
+use borrow.Author.Tests.{le-ltb, lt-ltb}
 use Rattle.units.specs.Counts.{largest}
-use Prim.Native.Nat.{_+_}
-use Rattle.units.proofs.Tests.{tests}
 use Rattle.ledger.proofs.Laws.{credit-row-done}
 use Rattle.model.specs.Parts.{depositOn}
 use borrow.Author.Needs.{needs}
@@ -20,7 +18,7 @@ add-sum c = search needs
 
 returns : tie.Need-returns
 unfolding depositOn
-returns c = search tests
+returns c = let a = c .before .before .args in rw (lt-ltb largest (a .supply .0 + a .amount) (c .if1 .taken))
 
 credit-row-requires : tie.Need-credit-row-requires
 credit-row-requires c κs = search needs

@@ -1,14 +1,11 @@
 -- `accounts_parts::order` meets its contract.
-use mathlib.Core.Path.{sym, ap, ap₂, subst, _∙_, _≡_, refl}
+use mathlib.Core.Path.{sym, ap, _∙_, _≡_}
 use native.Mathlib.Omega.{arith}
-use borrow.Author.Tests.{lt-ltb, le-ltb, ne-eqb, eq-eqb}
-use Prim.Native.Nat.{ℕ, _+_, _≤_, _<_}
-use mathlib.Core.Bool.{Bool, true, false, not}
+use borrow.Author.Tests.{lt-ltb, le-ltb}
+use Prim.Native.Nat.{ℕ, _≤_}
 use Rattle.units.specs.declared.Amount.{Amount}
-use Rattle.units.specs.Counts.{largest}
 use Rattle.ledger.specs.Balances.{cellOf}
 use Rattle.model.specs.Sides.{offered}
-use Rattle.model.specs.State.{isFree}
 use Rattle.model.proofs.Frames.{offered-lt}
 use Rattle.ledger.proofs.Laws.{debit-row-done}
 use Rattle.model.specs.Parts.{orderOn}

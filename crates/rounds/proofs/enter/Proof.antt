@@ -8,7 +8,7 @@ use Rattle.model.specs.declared.state.Market.{Market}
 use Rattle.model.specs.declared.parts.Form.the-variants.{Good}
 use Rattle.model.specs.declared.parts.Joined.{Joined}
 use Rattle.model.specs.State.{ticket, marketAt}
-use Rattle.model.specs.Parts.{ticketForm, formOf, marketIn, enterOn, putJoined}
+use Rattle.model.specs.Parts.{ticketForm, formOf, ticketMarket, enterOn, putJoined}
 use Rattle.model.proofs.OnParts.{after-bad, after-good, ticket-place, enter-on}
 use Rattle.model.proofs.PartBounds.{ticket-places}
 use Rattle.model.proofs.ReachBounds.{reachable-bounded}
@@ -44,8 +44,8 @@ ticket-market-requires c κs = search needs
 
 -- the ticket's market
 market-of : (c : tie.After-ticket-market) →
-    let a = c .before .before .before .before .before .args in c .ticket-market .result ≡ marketIn (ticket (a .x) (a .ticket))
-market-of c = c .ticket-market .ensures ∙ ap (λ (t : Ticket). marketIn (t .state)) (c .before .ticket-at .ensures)
+    let a = c .before .before .before .before .before .args in c .ticket-market .result ≡ ticketMarket (ticket (a .x) (a .ticket))
+market-of c = c .ticket-market .ensures ∙ ap (λ (t : Ticket). ticketMarket (t .state)) (c .before .ticket-at .ensures)
 
 -- there is such a market
 place : (c : tie.After-ticket-market) → (0 < c .ticket-market .result) × (c .ticket-market .result < 4)
@@ -60,7 +60,7 @@ market-at-requires c κs = let p = place c in omega arith
 
 -- the market that is taken out is its
 taken : (c : tie.After-market-at) →
-    let a = c .before .before .before .before .before .before .args in c .market-at .result ≡ marketAt (a .x .markets) (marketIn (ticket (a .x) (a .ticket)))
+    let a = c .before .before .before .before .before .before .args in c .market-at .result ≡ marketAt (a .x .markets) (ticketMarket (ticket (a .x) (a .ticket)))
 taken c = c .market-at .ensures ∙ ap (marketAt (c .before .before .before .before .before .before .args .x .markets)) (market-of (c .before))
 
 enter-requires : tie.Need-enter-requires

@@ -1,3 +1,4 @@
+-- `model::answer::code` meets its contract.
 use borrow.Author.Needs.{needs}
 use Rattle.model.proofs.answer.code.Statement.{statement}
 use Rattle.model.proofs.answer.code.Tie as tie

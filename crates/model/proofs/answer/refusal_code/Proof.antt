@@ -1,3 +1,4 @@
+-- `model::answer::refusal_code` meets its contract.
 use borrow.Author.Needs.{needs}
 use Rattle.model.proofs.answer.refusal_code.Statement.{statement}
 use Rattle.model.proofs.answer.refusal_code.Tie as tie

@@ -1,3 +1,4 @@
+-- `model::state::fresh` meets its contract.
 use borrow.Author.Needs.{needs}
 use Rattle.model.proofs.state.fresh.Statement.{statement}
 use Rattle.model.proofs.state.fresh.Tie as tie
