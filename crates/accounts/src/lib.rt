@@ -4,8 +4,7 @@ ghost use Rattle.model.specs.Calls.{depositOf, withdrawOf, orderOf, cancelOf};
 ghost use Rattle.model.specs.Run.{Reachable};
 ghost use Prim.Native.Nat.{_<_};
 ghost use Rattle.model.specs.Parts.{putBanked, putPlaced};
-use forms::call::form_of;
-use forms::side::side_of;
+use forms::form_of;
 use ledger::row_of;
 use ledger::with_row;
 use model::answer::Outcome;
@@ -18,6 +17,7 @@ use model::state::Order;
 use places::refused;
 use places::supply_at;
 use places::ticket_at;
+use sides::side_of;
 use units::Amount;
 use units::Price;
 
@@ -76,7 +76,7 @@ pub fn deposit(x: Exchange, member: u32, token: u32, amount: u32) -> Outcome
         Form::Good => {
             let ledger = x.ledger;
             let row = row_of(ledger, member);
-            let p = accounts_parts::deposit(row, supply_at(x, token), token, amount);
+            let p = accounts_parts::deposit(row, supply_at(x, token), token, Amount(amount));
             put_banked(x, member, token, p)
         }
     }
@@ -97,7 +97,7 @@ pub fn withdraw(x: Exchange, member: u32, token: u32, amount: u32) -> Outcome
         Form::Good => {
             let ledger = x.ledger;
             let row = row_of(ledger, member);
-            let p = accounts_parts::withdraw(row, supply_at(x, token), token, amount);
+            let p = accounts_parts::withdraw(row, supply_at(x, token), token, Amount(amount));
             put_banked(x, member, token, p)
         }
     }

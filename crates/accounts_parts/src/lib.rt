@@ -6,7 +6,6 @@ ghost use Prim.Native.Nat.{_<_};
 ghost use Rattle.model.specs.State.{isFree};
 ghost use Rattle.model.specs.Bounds.{BankBounds, CancelBounds};
 ghost use Rattle.model.specs.Parts.{depositOn, withdrawOn, unplaced, orderOn, cancelOn};
-use forms::side::offered_token;
 use ledger::Row;
 use ledger::cell_of;
 use ledger::credit_row;
@@ -19,54 +18,58 @@ use model::parts::Placed;
 use model::state::Order;
 use model::state::Ticket;
 use model::state::TicketState;
+use sides::offered_token;
 use units::Amount;
 
-// Deposit into a member's row and a token's supply.
-pub fn deposit(row: Row, supply: Amount, token: u32, amount: u32) -> Banked
+// 1 Deposit into a member's row and a token's supply.
+pub fn deposit(row: Row, supply: Amount, token: u32, n: Amount) -> Banked
     requires { ⌜ BankBounds row supply token ⌝ }
-    ensures { λ r. ⌜ r ≡ depositOn row supply token amount ⌝ }
+    ensures { λ r. ⌜ r ≡ depositOn row supply token (n .0) ⌝ }
 {
-    let sum = (supply.0 as u64) + (amount as u64);
-    if 4294967295 < sum {
+    let sum = (supply.0 as u64) + (n.0 as u64);
+    if 4_294_967_295 < sum {
         return Banked {
             answer: Answer::Refused(Refusal::SupplyExceeded),
             row,
             supply,
         };
     }
-    let p = credit_row(row, token, Amount(amount));
+    let p = credit_row(row, token, n);
     let entry = p.entry;
     let credited = p.row;
+    let total = sum as u32;
     Banked {
         answer: Answer::Accepted(entry_amount(entry), 0),
         row: credited,
-        supply: Amount(sum as u32),
+        supply: Amount(total),
     }
 }
 
-// Withdraw from a member's row and a token's supply.
-pub fn withdraw(row: Row, supply: Amount, token: u32, amount: u32) -> Banked
+// 2 Withdraw from a member's row and a token's supply.
+pub fn withdraw(row: Row, supply: Amount, token: u32, n: Amount) -> Banked
     requires { ⌜ BankBounds row supply token ⌝ }
-    ensures { λ r. ⌜ r ≡ withdrawOn row supply token amount ⌝ }
+    ensures { λ r. ⌜ r ≡ withdrawOn row supply token (n .0) ⌝ }
 {
     let balance = cell_of(row, token);
-    if balance.0 < amount {
+    if balance.0 < n.0 {
         return Banked {
             answer: Answer::Refused(Refusal::InsufficientBalance),
             row,
             supply,
         };
     }
-    let p = debit_row(row, token, Amount(amount));
+    let p = debit_row(row, token, n);
     let entry = p.entry;
     let debited = p.row;
+    let rest = supply.0 - n.0;
     Banked {
         answer: Answer::Accepted(entry_amount(entry), 0),
         row: debited,
-        supply: Amount(supply.0 - amount),
+        supply: Amount(rest),
     }
 }
 
+// A refusal leaves the row and the ticket.
 fn refused(row: Row, ticket: Ticket, why: Refusal) -> Placed
     ensures { λ r. ⌜ r ≡ unplaced row ticket why ⌝ }
 {
@@ -77,6 +80,7 @@ fn refused(row: Row, ticket: Ticket, why: Refusal) -> Placed
     }
 }
 
+// Whether a ticket is in use: it rests or entered.
 fn in_use(ticket: Ticket) -> bool
     ensures { λ r. ⌜ r ≡ not (isFree (ticket .state)) ⌝ }
 {
@@ -88,7 +92,7 @@ fn in_use(ticket: Ticket) -> bool
     }
 }
 
-// Order: an offer moved from its member's row into a ticket.
+// 3 Order: an offer moved from its member's row into a ticket.
 pub fn order(row: Row, ticket: Ticket, o: Order) -> Placed
     requires { ⌜ o .market < 4 ⌝ }
     ensures { λ r. ⌜ r ≡ orderOn row ticket o ⌝ }
@@ -114,7 +118,7 @@ pub fn order(row: Row, ticket: Ticket, o: Order) -> Placed
     }
 }
 
-// Cancel: a resting offer returned to its member's row.
+// 4 Cancel: a resting offer returned to its member's row.
 pub fn cancel(row: Row, ticket: Ticket, member: u32) -> Placed
     requires { ⌜ CancelBounds row ticket ⌝ }
     ensures { λ r. ⌜ r ≡ cancelOn row ticket member ⌝ }

@@ -4,8 +4,7 @@ ghost use Rattle.model.specs.Calls.{bidOf, settleOf};
 ghost use Rattle.model.specs.Run.{Reachable};
 ghost use Prim.Native.Nat.{_<_};
 ghost use Rattle.model.specs.Parts.{putTraded};
-use forms::call::form_of;
-use forms::side::side_of;
+use forms::form_of;
 use ledger::row_of;
 use ledger::with_row;
 use model::answer::Outcome;
@@ -14,8 +13,11 @@ use model::parts::Form;
 use model::parts::Traded;
 use model::state::Exchange;
 use places::market_at;
+use places::put_moved;
 use places::refused;
-use rounds::put_moved;
+use sides::side_of;
+use units::Amount;
+use units::Block;
 
 // A market, the maker's row and the last block.
 fn put_traded(x: Exchange, market: u32, member: u32, p: Traded) -> Outcome
@@ -66,15 +68,15 @@ pub fn bid(
             let ledger = x.ledger;
             let last = x.last;
             let row = row_of(ledger, member);
-            let p = auction_parts::bid(
+            let p = bid_parts::bid(
                 market_at(x, market),
                 row,
                 last,
                 market,
-                block,
+                Block(block),
                 side_of(side),
-                base,
-                bound,
+                Amount(base),
+                Amount(bound),
             );
             put_traded(x, market, member, p)
         }
@@ -91,7 +93,7 @@ pub fn settle(x: Exchange, market: u32, block: u32) -> Outcome
         Form::Bad(why) => refused(x, why),
         Form::Good => {
             let last = x.last;
-            let p = auction_parts::settle(market_at(x, market), last, block);
+            let p = settle_parts::settle(market_at(x, market), last, Block(block));
             put_moved(x, market, p)
         }
     }

@@ -6,9 +6,7 @@ ghost use Rattle.model.specs.Calls.{claimOf};
 ghost use Rattle.model.specs.Run.{Reachable};
 ghost use Prim.Native.Nat.{_<_};
 ghost use Rattle.model.specs.Parts.{putClaimed};
-use forms::call::form_of;
-use forms::ticket::ticket_market;
-use forms::ticket::ticket_member;
+use forms::form_of;
 use ledger::row_of;
 use ledger::with_row;
 use model::answer::Outcome;
@@ -20,6 +18,8 @@ use places::market_at;
 use places::refused;
 use places::residue_at;
 use places::ticket_at;
+use sides::ticket_market;
+use sides::ticket_member;
 
 // A ticket, its market, its member's row, and the residue of the market's two tokens.
 fn put_claimed(x: Exchange, ticket: u32, market: u32, member: u32, p: Claimed) -> Outcome

@@ -34,6 +34,7 @@ use Rattle.ledger.specs.Balances.{
   debited,
   totalIn,
   freshLedger,
+  RowShaped,
   Shaped,
 }
 use Rattle.ledger.specs.Postings.{
@@ -68,11 +69,11 @@ cell-set r t n h u = go (ℕ-discrete u t)
         (omega (arith, cell-same r t n h, only-same t (cellOf r t), only-same t n))
     go (no d) = omega (arith, cell-other r t n u d, only-other t (cellOf r t) u d, only-other t n u d)
 
-pub credited-cell : (r : Row) (t n : ℕ) → length (r .cells) ≡ 4 → t < 4 → (u : ℕ) → cellOf (creditedRow r t n) u ≡ cellOf r u + only t n u
+pub credited-cell : (r : Row) (t n : ℕ) → RowShaped r → t < 4 → (u : ℕ) → cellOf (creditedRow r t n) u ≡ cellOf r u + only t n u
 unfolding creditedRow
 credited-cell r t n z h u = omega (arith, cell-set r t (cellOf r t + n) (omega arith) u, only-add t (cellOf r t) n u)
 
-pub debited-cell : (r : Row) (t n : ℕ) → length (r .cells) ≡ 4 → t < 4 → n ≤ cellOf r t → (u : ℕ) → cellOf (debitedRow r t n) u + only t n u ≡ cellOf r u
+pub debited-cell : (r : Row) (t n : ℕ) → RowShaped r → t < 4 → n ≤ cellOf r t → (u : ℕ) → cellOf (debitedRow r t n) u + only t n u ≡ cellOf r u
 unfolding debitedRow
 debited-cell r t n z h le u =
     let e : cellOf r t - n + n ≡ cellOf r t = omega arith in
@@ -100,7 +101,7 @@ pub debited-row : (l : Ledger) (m t n : ℕ) → debited l m t n ≡ withRow l m
 unfolding debited
 debited-row l m t n = refl
 
-pub row-shaped : (l : Ledger) (m : ℕ) → Shaped l → m < 16 → length (rowOf l m .cells) ≡ 4
+pub row-shaped : (l : Ledger) (m : ℕ) → Shaped l → m < 16 → RowShaped (rowOf l m)
 unfolding rowOf
 row-shaped l m z h = z .cells m h
 
@@ -120,17 +121,17 @@ pub row-again : (l : Ledger) (m : ℕ) (r r′ : Row) → withRow (withRow l m r
 unfolding withRow
 row-again l m r r′ = ap (λ (x : List Row). record { rows = x }) (set-set (l .rows) m r r′)
 
-pub with-row-shaped : (l : Ledger) (m : ℕ) (r : Row) → Shaped l → (m < 16 → length (r .cells) ≡ 4) → Shaped (withRow l m r)
+pub with-row-shaped : (l : Ledger) (m : ℕ) (r : Row) → Shaped l → (m < 16 → RowShaped r) → Shaped (withRow l m r)
 unfolding rowOf withRow
 with-row-shaped l m r z h = record {
   rows = length-set (l .rows) m r ∙ z .rows;
   cells = λ j hj. go j hj (ℕ-discrete j m);
 }
   where
-    go : (j : ℕ) → j < 16 → Dec (j ≡ m) → length (getD (set (l .rows) m r) j noRow .cells) ≡ 4
+    go : (j : ℕ) → j < 16 → Dec (j ≡ m) → RowShaped (getD (set (l .rows) m r) j noRow)
     go j hj (yes e) =
-        let q : length (getD (set (l .rows) m r) m noRow .cells) ≡ 4 = rw (getD-set-same (l .rows) m r noRow (omega (arith, z .rows))) (h (omega arith)) in
-        subst (λ (i : ℕ). length (getD (set (l .rows) m r) i noRow .cells) ≡ 4) (sym e) q
+        let q : RowShaped (getD (set (l .rows) m r) m noRow) = rw (getD-set-same (l .rows) m r noRow (omega (arith, z .rows))) (h (omega arith)) in
+        subst (λ (i : ℕ). RowShaped (getD (set (l .rows) m r) i noRow)) (sym e) q
     go j hj (no d) = rw (getD-set-other (l .rows) m j r noRow d) (z .cells j hj)
 
 -- balances and totals, where one row is another

@@ -53,7 +53,11 @@ totalIn l t = sumTo 16 (λ m. balanceIn l m t)
 unfoldable pub freshLedger : Ledger
 freshLedger = record { rows = replicate 16 (record { cells = replicate 4 (amount 0) }) }
 
+-- a row of four
+abbrev pub RowShaped : Row → Type 0
+RowShaped r = length (r .cells) ≡ 4
+
 -- sixteen rows of four
 pub record Shaped (l : Ledger) : Type 0 where
   pub rows : length (l .rows) ≡ 16
-  pub cells : (m : ℕ) → m < 16 → length (getD (l .rows) m noRow .cells) ≡ 4
+  pub cells : (m : ℕ) → m < 16 → RowShaped (getD (l .rows) m noRow)

@@ -12,7 +12,7 @@ use Rattle.pricing.specs.declared.Side.{Side}
 use Rattle.pricing.specs.declared.Side.the-variants.{Buy, Sell}
 use Rattle.pricing.specs.Prices.{sharePaid, shareGot}
 use Rattle.ledger.specs.declared.Row.{Row}
-use Rattle.ledger.specs.Balances.{Shaped, cellOf}
+use Rattle.ledger.specs.Balances.{RowShaped, Shaped, cellOf}
 use Rattle.model.specs.declared.state.Order.{Order}
 use Rattle.model.specs.declared.state.Ticket.{Ticket}
 use Rattle.model.specs.declared.state.TicketState.{TicketState}
@@ -159,7 +159,7 @@ pub record BidBounds (r : Round) (row : Row) (last : Block) (number : ℕ) : Typ
   pub auction : AuctionBounds r
   pub started : r .start .0 ≤ last .0
   pub market : number < 4
-  pub cells : length (row .cells) ≡ 4
+  pub cells : RowShaped row
   pub beside : (side : Side) → cellOf row (offered side number) + heldIn r side ≤ largest
 
 -- claim: the round covers it, and what the round holds fits beside any balance and the residue

@@ -1,12 +1,13 @@
-// Parts of the state by their place, and a refusal, which leaves it. Public for the crates above, which ask for a place that there is.
+// Parts of the state by their place, a market put back, and a refusal, which leaves the state. Public for the crates above; they ask for a place that there is.
 ghost use mathlib.Core.Path.{_≡_};
 ghost use Prim.Native.Nat.{_<_};
 ghost use Rattle.model.specs.State.{marketAt};
 ghost use Rattle.model.specs.Calls.{refuse};
-ghost use Rattle.model.specs.Parts.{supplyAt, residueAt, ticketAt};
+ghost use Rattle.model.specs.Parts.{supplyAt, residueAt, ticketAt, putMoved};
 use model::answer::Answer;
 use model::answer::Outcome;
 use model::answer::Refusal;
+use model::parts::Moved;
 use model::state::Exchange;
 use model::state::Market;
 use model::state::Ticket;
@@ -55,5 +56,23 @@ pub fn refused(x: Exchange, why: Refusal) -> Outcome
     Outcome {
         answer: Answer::Refused(why),
         exchange: x,
+    }
+}
+
+// A market and the last block.
+pub fn put_moved(x: Exchange, market: u32, p: Moved) -> Outcome
+    requires { ⌜ (0 < market) × (market < 4) ⌝ }
+    ensures { λ r. ⌜ r ≡ putMoved x market p ⌝ }
+{
+    let answer = p.answer;
+    let moved = p.market;
+    let last = p.last;
+    let n = (market - 1) as usize;
+    let mut next = x;
+    next.markets[n] = moved;
+    next.last = last;
+    Outcome {
+        answer,
+        exchange: next,
     }
 }

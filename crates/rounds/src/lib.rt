@@ -3,36 +3,20 @@ ghost use mathlib.Core.Path.{_≡_};
 ghost use Rattle.model.specs.Calls.{openOf, enterOf, matchOf};
 ghost use Rattle.model.specs.Run.{Reachable};
 ghost use Prim.Native.Nat.{_<_};
-ghost use Rattle.model.specs.Parts.{putMoved, putJoined};
-use forms::call::form_of;
-use forms::ticket::ticket_market;
+ghost use Rattle.model.specs.Parts.{putJoined};
+use forms::form_of;
 use model::answer::Outcome;
 use model::call::Call;
 use model::parts::Form;
 use model::parts::Joined;
-use model::parts::Moved;
 use model::state::Exchange;
 use places::market_at;
+use places::put_moved;
 use places::refused;
 use places::ticket_at;
-
-// A market and the last block.
-pub fn put_moved(x: Exchange, market: u32, p: Moved) -> Outcome
-    requires { ⌜ (0 < market) × (market < 4) ⌝ }
-    ensures { λ r. ⌜ r ≡ putMoved x market p ⌝ }
-{
-    let answer = p.answer;
-    let moved = p.market;
-    let last = p.last;
-    let n = (market - 1) as usize;
-    let mut next = x;
-    next.markets[n] = moved;
-    next.last = last;
-    Outcome {
-        answer,
-        exchange: next,
-    }
-}
+use sides::ticket_market;
+use units::Block;
+use units::Price;
 
 // A ticket and its market.
 fn put_joined(x: Exchange, ticket: u32, market: u32, p: Joined) -> Outcome
@@ -76,7 +60,14 @@ pub fn open(
         Form::Bad(why) => refused(x, why),
         Form::Good => {
             let last = x.last;
-            let p = rounds_parts::open(market_at(x, market), last, block, reference, slack, length);
+            let p = rounds_parts::open(
+                market_at(x, market),
+                last,
+                Block(block),
+                Price(reference),
+                slack,
+                length,
+            );
             put_moved(x, market, p)
         }
     }
@@ -93,7 +84,7 @@ pub fn enter(x: Exchange, ticket: u32) -> Outcome
         Form::Good => {
             let t = ticket_at(x, ticket);
             let market = ticket_market(t);
-            let p = rounds_parts::enter(t, market_at(x, market), ticket);
+            let p = enter_parts::enter(t, market_at(x, market), ticket);
             put_joined(x, ticket, market, p)
         }
     }
@@ -109,7 +100,7 @@ pub fn match_round(x: Exchange, market: u32, block: u32) -> Outcome
         Form::Bad(why) => refused(x, why),
         Form::Good => {
             let last = x.last;
-            let p = rounds_parts::match_round(market_at(x, market), last, block);
+            let p = rounds_parts::match_round(market_at(x, market), last, Block(block));
             put_moved(x, market, p)
         }
     }

@@ -1,38 +1,27 @@
-// Open, enter and match on the parts that they touch. Public for the crates above; what they ask of their parts holds of the parts of every
+// Open and match on the parts that they touch. Public for the crates above; what they ask of their parts holds of the parts of every
 // reachable state.
 ghost use mathlib.Core.Path.{_≡_};
-ghost use Prim.Native.Nat.{_<_, _≤_, _+_};
-ghost use Rattle.units.specs.Counts.{largest};
-ghost use Rattle.pricing.specs.Prices.{offLimit};
-ghost use Rattle.model.specs.State.{isClosed, totalsOf};
-ghost use Rattle.model.specs.Calls.{plusTotal, enteredRound};
-ghost use Rattle.model.specs.Bounds.{EnterBounds, MatchBounds, heldIn};
-ghost use Rattle.model.specs.Parts.{unmoved, openOn, matchOn, unjoined, enterOn};
-ghost use Rattle.model.specs.declared.state.TicketState.the-variants.{Resting};
+ghost use Prim.Native.Nat.{_<_, _≤_};
+ghost use Rattle.model.specs.State.{isClosed};
+ghost use Rattle.model.specs.Bounds.{MatchBounds};
+ghost use Rattle.model.specs.Parts.{unmoved, openOn, matchOn};
 ghost use Rattle.model.specs.declared.state.Phase.the-variants.{Collect};
-use forms::side::totals_of;
 use model::answer::Answer;
 use model::answer::Refusal;
-use model::parts::Joined;
 use model::parts::Moved;
 use model::state::Market;
-use model::state::Order;
 use model::state::Phase;
 use model::state::Round;
-use model::state::Ticket;
-use model::state::TicketState;
-use pricing::Side;
 use pricing::Totals;
 use pricing::high_bound;
 use pricing::low_bound;
 use pricing::trade_within;
-use ticket_set::insert;
 use units::Amount;
 use units::Block;
 use units::Price;
 
 // A refusal leaves the market and the last block.
-fn unmoved_market(market: Market, last: Block, why: Refusal) -> Moved
+pub fn unmoved_market(market: Market, last: Block, why: Refusal) -> Moved
     ensures { λ r. ⌜ r ≡ unmoved market last why ⌝ }
 {
     Moved {
@@ -59,33 +48,33 @@ fn is_closed(market: Market) -> bool
 pub fn open(
     market: Market,
     last: Block,
-    block: u32,
-    reference: u32,
+    block: Block,
+    reference: Price,
     slack: u32,
     length: u32,
 ) -> Moved
-    requires { ⌜ (reference ≤ 1000000000) × (slack ≤ 500000) ⌝ }
-    ensures { λ r. ⌜ r ≡ openOn market last block reference slack length ⌝ }
+    requires { ⌜ (reference .0 ≤ 1000000000) × (slack ≤ 500000) ⌝ }
+    ensures { λ r. ⌜ r ≡ openOn market last (block .0) (reference .0) slack length ⌝ }
 {
     if !is_closed(market) {
         return unmoved_market(market, last, Refusal::WrongPhase);
     }
-    if block < last.0 {
+    if block.0 < last.0 {
         return unmoved_market(market, last, Refusal::StaleBlock);
     }
-    let hi = high_bound(Price(reference), slack);
-    let lo = low_bound(Price(reference), slack);
+    let hi = high_bound(reference, slack);
+    let lo = low_bound(reference, slack);
     let none = Totals {
         total: Amount(0),
         paid: Amount(0),
         got: Amount(0),
     };
     let round = Round {
-        reference: Price(reference),
+        reference,
         hi,
         lo,
         length,
-        opened: Block(block),
+        opened: block,
         start: Block(0),
         tickets: 0,
         buys: none,
@@ -98,136 +87,20 @@ pub fn open(
         market: Market {
             phase: Phase::Collect(round),
         },
-        last: Block(block),
-    }
-}
-
-// A refusal leaves the ticket and its market.
-fn unjoined_ticket(t: Ticket, market: Market, why: Refusal) -> Joined
-    ensures { λ r. ⌜ r ≡ unjoined t market why ⌝ }
-{
-    Joined {
-        answer: Answer::Refused(why),
-        ticket: t,
-        market,
-    }
-}
-
-// Whether a buy's limit is below hi, or a sell's above lo.
-fn off_limit(side: Side, limit: Price, r: Round) -> bool
-    ensures { λ b. ⌜ b ≡ offLimit side (limit .0) (r .hi .0) (r .lo .0) ⌝ }
-{
-    let hi = r.hi;
-    let lo = r.lo;
-    match side {
-        Side::Buy => limit.0 < hi.0,
-        Side::Sell => lo.0 < limit.0,
-    }
-}
-
-// A side with more offered.
-fn plus_total(t: Totals, n: Amount) -> Totals
-    requires { ⌜ t .total .0 + n .0 ≤ largest ⌝ }
-    ensures { λ r. ⌜ r ≡ plusTotal t (n .0) ⌝ }
-{
-    let total = Amount(t.total.0 + n.0);
-    let mut next = t;
-    next.total = total;
-    next
-}
-
-// A round with a ticket in its set, and with the whole offer in its side's total and in what the round holds.
-fn joined_round(r: Round, ticket: u32, side: Side, offer: Amount) -> Round
-    requires { ⌜
-        (ticket < 64)
-        × (totalsOf r side .total .0 + offer .0 ≤ largest)
-        × (heldIn r side + offer .0 ≤ largest)
-        ⌝ }
-    ensures { λ o. ⌜ o ≡ enteredRound r ticket side (offer .0) ⌝ }
-{
-    let tickets = insert(r.tickets, ticket);
-    let mut next = r;
-    next.tickets = tickets;
-    match side {
-        Side::Buy => {
-            let buys = plus_total(r.buys, offer);
-            let quote = Amount(r.quote.0 + offer.0);
-            next.buys = buys;
-            next.quote = quote;
-            next
-        }
-        Side::Sell => {
-            let sells = plus_total(r.sells, offer);
-            let base = Amount(r.base.0 + offer.0);
-            next.sells = sells;
-            next.base = base;
-            next
-        }
-    }
-}
-
-// Enter of a resting ticket into a round that collects.
-fn join(t: Ticket, market: Market, ticket: u32, o: Order, r: Round) -> Joined
-    requires { ⌜
-        (ticket < 64)
-        × (t .state ≡ Resting o)
-        × (market .phase ≡ Collect r)
-        × (totalsOf r (o .side) .total .0 + o .offer .0 ≤ largest)
-        × (heldIn r (o .side) + o .offer .0 ≤ largest)
-        ⌝ }
-    ensures { λ p. ⌜ p ≡ enterOn t market ticket ⌝ }
-{
-    let side = o.side;
-    let limit = o.limit;
-    let offer = o.offer;
-    if off_limit(side, limit, r) {
-        return unjoined_ticket(t, market, Refusal::LimitOutOfBounds);
-    }
-    let next = joined_round(r, ticket, side, offer);
-    let totals = totals_of(next, side);
-    let total = totals.total;
-    Joined {
-        answer: Answer::Accepted(total.0, 0),
-        ticket: Ticket {
-            state: TicketState::Entered(o),
-        },
-        market: Market {
-            phase: Phase::Collect(next),
-        },
-    }
-}
-
-// 6 Enter.
-pub fn enter(t: Ticket, market: Market, ticket: u32) -> Joined
-    requires { ⌜ (ticket < 64) × EnterBounds t market ⌝ }
-    ensures { λ r. ⌜ r ≡ enterOn t market ticket ⌝ }
-{
-    let state = t.state;
-    match state {
-        TicketState::Free => unjoined_ticket(t, market, Refusal::NoSuchOrder),
-        TicketState::Entered(_) => unjoined_ticket(t, market, Refusal::WrongTicketState),
-        TicketState::Resting(o) => {
-            let phase = market.phase;
-            match phase {
-                Phase::Closed => unjoined_ticket(t, market, Refusal::WrongPhase),
-                Phase::Collect(r) => join(t, market, ticket, o, r),
-                Phase::Auction(_) => unjoined_ticket(t, market, Refusal::WrongPhase),
-                Phase::Paying(_) => unjoined_ticket(t, market, Refusal::WrongPhase),
-            }
-        }
+        last: block,
     }
 }
 
 // Match of a round that collects: what its two sides trade with each other, and the auction's start.
-fn match_collected(market: Market, last: Block, block: u32, r: Round) -> Moved
+fn match_collected(market: Market, last: Block, block: Block, r: Round) -> Moved
     requires { ⌜ (market .phase ≡ Collect r) × (0 < r .reference .0) ⌝ }
-    ensures { λ o. ⌜ o ≡ matchOn market last block ⌝ }
+    ensures { λ o. ⌜ o ≡ matchOn market last (block .0) ⌝ }
 {
-    if block < last.0 {
+    if block.0 < last.0 {
         return unmoved_market(market, last, Refusal::StaleBlock);
     }
     let opened = r.opened;
-    if (block as u64) < (opened.0 as u64) + 4 {
+    if (block.0 as u64) < (opened.0 as u64) + 4 {
         return unmoved_market(market, last, Refusal::TooEarly);
     }
     let buys = r.buys;
@@ -239,7 +112,6 @@ fn match_collected(market: Market, last: Block, block: u32, r: Round) -> Moved
     let t = trade_within(q, s, reference, hi);
     let base = t.base;
     let quote = t.quote;
-    let start = Block(block);
     let bought = Totals {
         total: q,
         paid: quote,
@@ -251,7 +123,7 @@ fn match_collected(market: Market, last: Block, block: u32, r: Round) -> Moved
         got: quote,
     };
     let mut next = r;
-    next.start = start;
+    next.start = block;
     next.buys = bought;
     next.sells = sold;
     Moved {
@@ -259,14 +131,14 @@ fn match_collected(market: Market, last: Block, block: u32, r: Round) -> Moved
         market: Market {
             phase: Phase::Auction(next),
         },
-        last: start,
+        last: block,
     }
 }
 
 // 7 Match.
-pub fn match_round(market: Market, last: Block, block: u32) -> Moved
+pub fn match_round(market: Market, last: Block, block: Block) -> Moved
     requires { ⌜ MatchBounds market ⌝ }
-    ensures { λ r. ⌜ r ≡ matchOn market last block ⌝ }
+    ensures { λ r. ⌜ r ≡ matchOn market last (block .0) ⌝ }
 {
     let phase = market.phase;
     match phase {

@@ -16,30 +16,30 @@ cell-of-requires c κs = search needs
 
 returns : tie.Need-returns
 unfolding withdrawOn
-returns c = let a = c .before .before .before .args in
-    rw (lt-ltb (cellOf (a .row) (a .token)) (a .amount) (omega (arith, ap (λ (n : Amount). n .0) (c .before .before .cell-of .ensures))))
+returns c = let a = c .before .before .before .before .args in
+    rw (lt-ltb (cellOf (a .row) (a .token)) (a .n .0) (omega (arith, ap (λ (n : Amount). n .0) (c .before .before .before .cell-of .ensures))))
 
 debit-row-requires : tie.Need-debit-row-requires
 debit-row-requires c κs = search needs
 
+sub-rest : tie.Need-sub-rest
+sub-rest c = omega (arith, ap (λ (n : Amount). n .0) (c .before .before .before .before .before .before .before .cell-of .ensures), c .before .before .before .before .before .before .before .before .pre .1, c .before .before .before .before .if1 .left)
+
 entry-amount-requires : tie.Need-entry-amount-requires
 entry-amount-requires c κs = search needs
 
-sub-t15 : tie.Need-sub-t15
-sub-t15 c = omega (arith, ap (λ (n : Amount). n .0) (c .before .before .before .before .before .before .cell-of .ensures), c .before .before .before .before .before .before .before .pre .1, c .before .before .before .before .if1 .left)
-
 returns-2 : tie.Need-returns-2
 unfolding withdrawOn
-returns-2 c = let a = c .before .before .before .before .before .before .before .args in
-    let pre = c .before .before .before .before .before .before .before .pre in
-    let le : a .amount ≤ cellOf (a .row) (a .token) = omega (arith, ap (λ (n : Amount). n .0) (c .before .before .before .before .before .before .cell-of .ensures), c .before .before .before .before .if1 .left) in
+returns-2 c = let a = c .before .before .before .before .before .before .before .before .before .args in
+    let pre = c .before .before .before .before .before .before .before .before .before .pre in
+    let le : a .n .0 ≤ cellOf (a .row) (a .token) = omega (arith, ap (λ (n : Amount). n .0) (c .before .before .before .before .before .before .before .before .cell-of .ensures), c .before .before .before .before .before .if1 .left) in
     rw (
-      c .before .entry-amount .ensures,
-      c .before .before .before .debit-row .ensures ∙ debit-row-done (a .row) (a .token) (a .amount) (omega (arith, pre .0)) le,
-      le-ltb (cellOf (a .row) (a .token)) (a .amount) le,
+      c .entry-amount .ensures,
+      c .before .before .before .before .debit-row .ensures ∙ debit-row-done (a .row) (a .token) (a .n .0) (omega (arith, pre .0)) le,
+      le-ltb (cellOf (a .row) (a .token)) (a .n .0) le,
     )
 
 pub withdraw-spec : {M : Type 1} → statement M
 withdraw-spec =
     tie.close
-    (tie.spec cell-of-requires returns debit-row-requires entry-amount-requires sub-t15 returns-2)
+    (tie.spec cell-of-requires returns debit-row-requires sub-rest entry-amount-requires returns-2)

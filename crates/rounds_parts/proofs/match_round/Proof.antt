@@ -35,7 +35,7 @@ unmoved-market-requires-3 c κs = search needs
 returns : tie.Need-returns
 returns c =
     let a = c .before .before .before .args in
-    c .unmoved-market .ensures ∙ sym (match-wrong-phase (a .market) (a .last) (a .block) (ap isCollect (c .before .enum-told .given .1)))
+    c .unmoved-market .ensures ∙ sym (match-wrong-phase (a .market) (a .last) (a .block .0) (ap isCollect (c .before .enum-told .given .1)))
 
 returns-2 : tie.Need-returns-2
 returns-2 c = search needs
@@ -43,12 +43,12 @@ returns-2 c = search needs
 returns-3 : tie.Need-returns-3
 returns-3 c =
     let a = c .before .before .before .args in
-    c .unmoved-market2 .ensures ∙ sym (match-wrong-phase (a .market) (a .last) (a .block) (ap isCollect (c .before .enum-told2 .given .1)))
+    c .unmoved-market2 .ensures ∙ sym (match-wrong-phase (a .market) (a .last) (a .block .0) (ap isCollect (c .before .enum-told2 .given .1)))
 
 returns-4 : tie.Need-returns-4
 returns-4 c =
     let a = c .before .before .before .args in
-    c .unmoved-market3 .ensures ∙ sym (match-wrong-phase (a .market) (a .last) (a .block) (ap isCollect (c .before .enum-told3 .given .1)))
+    c .unmoved-market3 .ensures ∙ sym (match-wrong-phase (a .market) (a .last) (a .block .0) (ap isCollect (c .before .enum-told3 .given .1)))
 
 pub match-round-spec : {M : Type 1} → statement M
 match-round-spec =

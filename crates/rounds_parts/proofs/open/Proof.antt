@@ -17,16 +17,16 @@ returns : tie.Need-returns
 returns c =
     let a = c .before .before .before .args in
     let e = sym (c .before .before .is-closed .ensures) ∙ not-true _ (c .before .if1 .taken) in
-    c .unmoved-market .ensures ∙ sym (open-wrong-phase (a .market) (a .last) (a .block) (a .reference) (a .slack) (a .length) e)
+    c .unmoved-market .ensures ∙ sym (open-wrong-phase (a .market) (a .last) (a .block .0) (a .reference .0) (a .slack) (a .length) e)
 
 unmoved-market-requires-2 : tie.Need-unmoved-market-requires-2
 unmoved-market-requires-2 c κs = search needs
 
 returns-2 : tie.Need-returns-2
 returns-2 c =
-    let a = c .before .before .before .before .before .args in
-    let e = sym (c .before .before .before .before .is-closed .ensures) ∙ not-false _ (c .before .before .before .if1 .left) in
-    c .unmoved-market2 .ensures ∙ sym (open-stale (a .market) (a .last) (a .block) (a .reference) (a .slack) (a .length) e (omega arith))
+    let a = c .before .before .before .before .before .before .args in
+    let e = sym (c .before .before .before .before .before .is-closed .ensures) ∙ not-false _ (c .before .before .before .before .if1 .left) in
+    c .unmoved-market2 .ensures ∙ sym (open-stale (a .market) (a .last) (a .block .0) (a .reference .0) (a .slack) (a .length) e (omega arith))
 
 high-bound-requires : tie.Need-high-bound-requires
 high-bound-requires c κs = search needs
@@ -36,10 +36,10 @@ low-bound-requires c κs = search needs
 
 returns-3 : tie.Need-returns-3
 returns-3 c =
-    let a = c .before .before .before .before .before .before .args in
-    let e = sym (c .before .before .before .before .before .is-closed .ensures) ∙ not-false _ (c .before .before .before .before .if1 .left) in
-    ap₂ (openedWith (a .block) (a .reference) (a .length)) (c .before .high-bound .ensures) (c .low-bound .ensures)
-    ∙ sym (open-done (a .market) (a .last) (a .block) (a .reference) (a .slack) (a .length) e (omega arith))
+    let a = c .before .before .before .before .before .before .before .args in
+    let e = sym (c .before .before .before .before .before .before .is-closed .ensures) ∙ not-false _ (c .before .before .before .before .before .if1 .left) in
+    ap₂ (openedWith (a .block .0) (a .reference .0) (a .length)) (c .before .high-bound .ensures) (c .low-bound .ensures)
+    ∙ sym (open-done (a .market) (a .last) (a .block .0) (a .reference .0) (a .slack) (a .length) e (omega arith))
 
 pub open-spec : {M : Type 1} → statement M
 open-spec =
