@@ -27,11 +27,9 @@ fn put_banked(x: Exchange, member: u32, token: u32, p: Banked) -> Outcome
     ensures { λ r. ⌜ r ≡ putBanked x member token p ⌝ }
 {
     let answer = p.answer;
-    let row = p.row;
     let supply = p.supply;
     let t = token as usize;
-    let l = x.ledger;
-    let ledger = with_row(l, member, row);
+    let ledger = with_row(x.ledger, member, p.row);
     let mut next = x;
     next.ledger = ledger;
     next.supply[t] = supply;
@@ -47,11 +45,9 @@ fn put_placed(x: Exchange, member: u32, ticket: u32, p: Placed) -> Outcome
     ensures { λ r. ⌜ r ≡ putPlaced x member ticket p ⌝ }
 {
     let answer = p.answer;
-    let row = p.row;
     let t = p.ticket;
     let k = ticket as usize;
-    let l = x.ledger;
-    let ledger = with_row(l, member, row);
+    let ledger = with_row(x.ledger, member, p.row);
     let mut next = x;
     next.ledger = ledger;
     next.tickets[k] = t;
@@ -74,8 +70,7 @@ pub fn deposit(x: Exchange, member: u32, token: u32, amount: u32) -> Outcome
     match form {
         Form::Bad(why) => refused(x, why),
         Form::Good => {
-            let ledger = x.ledger;
-            let row = row_of(ledger, member);
+            let row = row_of(x.ledger, member);
             let p = accounts_parts::deposit(row, supply_at(x, token), token, Amount(amount));
             put_banked(x, member, token, p)
         }
@@ -95,8 +90,7 @@ pub fn withdraw(x: Exchange, member: u32, token: u32, amount: u32) -> Outcome
     match form {
         Form::Bad(why) => refused(x, why),
         Form::Good => {
-            let ledger = x.ledger;
-            let row = row_of(ledger, member);
+            let row = row_of(x.ledger, member);
             let p = accounts_parts::withdraw(row, supply_at(x, token), token, Amount(amount));
             put_banked(x, member, token, p)
         }
@@ -134,8 +128,7 @@ pub fn order(
                 limit: Price(limit),
                 offer: Amount(amount),
             };
-            let ledger = x.ledger;
-            let row = row_of(ledger, member);
+            let row = row_of(x.ledger, member);
             let p = accounts_parts::order(row, ticket_at(x, ticket), o);
             put_placed(x, member, ticket, p)
         }
@@ -151,8 +144,7 @@ pub fn cancel(x: Exchange, ticket: u32, member: u32) -> Outcome
     match form {
         Form::Bad(why) => refused(x, why),
         Form::Good => {
-            let ledger = x.ledger;
-            let row = row_of(ledger, member);
+            let row = row_of(x.ledger, member);
             let p = accounts_parts::cancel(row, ticket_at(x, ticket), member);
             put_placed(x, member, ticket, p)
         }

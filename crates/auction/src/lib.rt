@@ -26,11 +26,9 @@ fn put_traded(x: Exchange, market: u32, member: u32, p: Traded) -> Outcome
 {
     let answer = p.answer;
     let m = p.market;
-    let row = p.row;
     let last = p.last;
     let n = (market - 1) as usize;
-    let l = x.ledger;
-    let ledger = with_row(l, member, row);
+    let ledger = with_row(x.ledger, member, p.row);
     let mut next = x;
     next.ledger = ledger;
     next.markets[n] = m;
@@ -65,13 +63,11 @@ pub fn bid(
     match form {
         Form::Bad(why) => refused(x, why),
         Form::Good => {
-            let ledger = x.ledger;
-            let last = x.last;
-            let row = row_of(ledger, member);
+            let row = row_of(x.ledger, member);
             let p = bid_parts::bid(
                 market_at(x, market),
                 row,
-                last,
+                x.last,
                 market,
                 Block(block),
                 side_of(side),
@@ -92,8 +88,7 @@ pub fn settle(x: Exchange, market: u32, block: u32) -> Outcome
     match form {
         Form::Bad(why) => refused(x, why),
         Form::Good => {
-            let last = x.last;
-            let p = settle_parts::settle(market_at(x, market), last, Block(block));
+            let p = settle_parts::settle(market_at(x, market), x.last, Block(block));
             put_moved(x, market, p)
         }
     }

@@ -29,14 +29,12 @@ fn put_claimed(x: Exchange, ticket: u32, market: u32, member: u32, p: Claimed) -
     let answer = p.answer;
     let t = p.ticket;
     let m = p.market;
-    let row = p.row;
     let quote = p.quote;
     let base = p.base;
     let k = ticket as usize;
     let n = (market - 1) as usize;
     let b = market as usize;
-    let l = x.ledger;
-    let ledger = with_row(l, member, row);
+    let ledger = with_row(x.ledger, member, p.row);
     let mut next = x;
     next.ledger = ledger;
     next.residue[0] = quote;
@@ -61,8 +59,7 @@ pub fn claim(x: Exchange, ticket: u32) -> Outcome
             let t = ticket_at(x, ticket);
             let market = ticket_market(t);
             let member = ticket_member(t);
-            let ledger = x.ledger;
-            let row = row_of(ledger, member);
+            let row = row_of(x.ledger, member);
             let p = claims_parts::claim(
                 t,
                 market_at(x, market),

@@ -59,10 +59,9 @@ pub fn open(
     match form {
         Form::Bad(why) => refused(x, why),
         Form::Good => {
-            let last = x.last;
             let p = rounds_parts::open(
                 market_at(x, market),
-                last,
+                x.last,
                 Block(block),
                 Price(reference),
                 slack,
@@ -99,8 +98,7 @@ pub fn match_round(x: Exchange, market: u32, block: u32) -> Outcome
     match form {
         Form::Bad(why) => refused(x, why),
         Form::Good => {
-            let last = x.last;
-            let p = rounds_parts::match_round(market_at(x, market), last, Block(block));
+            let p = rounds_parts::match_round(market_at(x, market), x.last, Block(block));
             put_moved(x, market, p)
         }
     }

@@ -99,17 +99,12 @@ fn match_collected(market: Market, last: Block, block: Block, r: Round) -> Moved
     if block.0 < last.0 {
         return unmoved_market(market, last, Refusal::StaleBlock);
     }
-    let opened = r.opened;
-    if (block.0 as u64) < (opened.0 as u64) + 4 {
+    if (block.0 as u64) < (r.opened.0 as u64) + 4 {
         return unmoved_market(market, last, Refusal::TooEarly);
     }
-    let buys = r.buys;
-    let sells = r.sells;
-    let q = buys.total;
-    let s = sells.total;
-    let reference = r.reference;
-    let hi = r.hi;
-    let t = trade_within(q, s, reference, hi);
+    let q = r.buys.total;
+    let s = r.sells.total;
+    let t = trade_within(q, s, r.reference, r.hi);
     let base = t.base;
     let quote = t.quote;
     let bought = Totals {

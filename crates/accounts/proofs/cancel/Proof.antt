@@ -32,18 +32,18 @@ enum-told : tie.Need-enum-told
 enum-told c = search needs
 
 row-of-requires : tie.Need-row-of-requires
-row-of-requires c κs = good (c .before) .1
+row-of-requires c κs = good c .1
 
 ticket-at-requires : tie.Need-ticket-at-requires
-ticket-at-requires c κs = good (c .before .before) .0
+ticket-at-requires c κs = good (c .before) .0
 
 cancel-requires : tie.Need-cancel-requires
-cancel-requires c κs = let s = c .before .before .before .before .before .before in
-    let g = good (c .before .before .before) in
+cancel-requires c κs = let s = c .before .before .before .before .before in
+    let g = good (c .before .before) in
     rw (c .before .row-of .ensures, c .ticket-at .ensures) (cancel-bounds (s .args .x) (reachable-bounded (s .args .x) (s .pre)) (s .args .member) (s .args .ticket) (g .1) (g .0))
 
 put-placed-requires : tie.Need-put-placed-requires
-put-placed-requires c κs = let g = good (c .before .before .before .before) in (g .1, g .0)
+put-placed-requires c κs = let g = good (c .before .before .before) in (g .1, g .0)
 
 returns : tie.Need-returns
 returns c = let a = c .before .before .before .before .before .args in
@@ -51,12 +51,12 @@ returns c = let a = c .before .before .before .before .before .args in
     ∙ sym (cancel-on (a .x) (a .member) (a .ticket) ∙ after-bad (a .x) _ (sym (c .before .before .before .before .form-of .ensures) ∙ c .before .before .form .given .1))
 
 returns-2 : tie.Need-returns-2
-returns-2 c = let a = c .before .before .before .before .before .before .before .before .args in
+returns-2 c = let a = c .before .before .before .before .before .before .before .args in
     c .put-placed .ensures
     ∙ ap (putPlaced (a .x) (a .member) (a .ticket))
     (c .before .cancel .ensures
     ∙ ap₂ (λ (row : Row) (t : Ticket). cancelOn row t (a .member)) (c .before .before .before .row-of .ensures) (c .before .before .ticket-at .ensures))
-    ∙ sym (cancel-on (a .x) (a .member) (a .ticket) ∙ after-good (a .x) _ (formed (c .before .before .before .before .before)))
+    ∙ sym (cancel-on (a .x) (a .member) (a .ticket) ∙ after-good (a .x) _ (formed (c .before .before .before .before)))
 
 pub cancel-spec : {M : Type 1} → statement M
 cancel-spec =

@@ -37,16 +37,16 @@ side-of-requires : tie.Need-side-of-requires
 side-of-requires c κs = search needs
 
 row-of-requires : tie.Need-row-of-requires
-row-of-requires c κs = good (c .before .before) .1
+row-of-requires c κs = good (c .before) .1
 
 ticket-at-requires : tie.Need-ticket-at-requires
-ticket-at-requires c κs = good (c .before .before .before) .0
+ticket-at-requires c κs = good (c .before .before) .0
 
 order-requires : tie.Need-order-requires
-order-requires c κs = good (c .before .before .before .before) .2
+order-requires c κs = good (c .before .before .before) .2
 
 put-placed-requires : tie.Need-put-placed-requires
-put-placed-requires c κs = let g = good (c .before .before .before .before .before) in (g .1, g .0)
+put-placed-requires c κs = let g = good (c .before .before .before .before) in (g .1, g .0)
 
 returns : tie.Need-returns
 returns c = let a = c .before .before .before .before .before .args in
@@ -54,14 +54,14 @@ returns c = let a = c .before .before .before .before .before .args in
     ∙ sym (order-on (a .x) (a .member) (a .ticket) (a .market) (a .side) (a .limit) (a .amount) ∙ after-bad (a .x) _ (sym (c .before .before .before .before .form-of .ensures) ∙ c .before .before .form .given .1))
 
 returns-2 : tie.Need-returns-2
-returns-2 c = let a = c .before .before .before .before .before .before .before .before .before .args in
+returns-2 c = let a = c .before .before .before .before .before .before .before .before .args in
     let order : Side → Order = λ s. record { member = a .member; market = a .market; side = s; limit = price (a .limit); offer = amount (a .amount) } in
     c .put-placed .ensures
     ∙ ap (putPlaced (a .x) (a .member) (a .ticket))
     (c .before .order .ensures
-    ∙ ap₂ (λ (row : Row) (t : Ticket). orderOn row t (order (c .before .before .before .before .before .side-of .result))) (c .before .before .before .row-of .ensures) (c .before .before .ticket-at .ensures)
-    ∙ ap (λ (s : Side). orderOn (rowOf (a .x .ledger) (a .member)) (ticketAt (a .x) (a .ticket)) (order s)) (c .before .before .before .before .before .side-of .ensures))
-    ∙ sym (order-on (a .x) (a .member) (a .ticket) (a .market) (a .side) (a .limit) (a .amount) ∙ after-good (a .x) _ (formed (c .before .before .before .before .before .before)))
+    ∙ ap₂ (λ (row : Row) (t : Ticket). orderOn row t (order (c .before .before .before .before .side-of .result))) (c .before .before .before .row-of .ensures) (c .before .before .ticket-at .ensures)
+    ∙ ap (λ (s : Side). orderOn (rowOf (a .x .ledger) (a .member)) (ticketAt (a .x) (a .ticket)) (order s)) (c .before .before .before .before .side-of .ensures))
+    ∙ sym (order-on (a .x) (a .member) (a .ticket) (a .market) (a .side) (a .limit) (a .amount) ∙ after-good (a .x) _ (formed (c .before .before .before .before .before)))
 
 pub order-spec : {M : Type 1} → statement M
 order-spec =

@@ -32,30 +32,30 @@ enum-told : tie.Need-enum-told
 enum-told c = search needs
 
 row-of-requires : tie.Need-row-of-requires
-row-of-requires c κs = good (c .before) .0
+row-of-requires c κs = good c .0
 
 supply-at-requires : tie.Need-supply-at-requires
-supply-at-requires c κs = good (c .before .before) .1
+supply-at-requires c κs = good (c .before) .1
 
 withdraw-requires : tie.Need-withdraw-requires
-withdraw-requires c κs = let s = c .before .before .before .before .before .before in
-    let g = good (c .before .before .before) in
+withdraw-requires c κs = let s = c .before .before .before .before .before in
+    let g = good (c .before .before) in
     rw (c .before .row-of .ensures, c .supply-at .ensures) (bank-bounds (s .args .x) (reachable-bounded (s .args .x) (s .pre)) (s .args .member) (s .args .token) (g .0) (g .1))
 
 put-banked-requires : tie.Need-put-banked-requires
-put-banked-requires c κs = good (c .before .before .before .before)
+put-banked-requires c κs = good (c .before .before .before)
 
 returns : tie.Need-returns
 returns c = let a = c .before .before .before .before .before .args in
     c .refused .ensures ∙ sym (withdraw-on (a .x) (a .member) (a .token) (a .amount) ∙ after-bad (a .x) _ (sym (c .before .before .before .before .form-of .ensures) ∙ c .before .before .form .given .1))
 
 returns-2 : tie.Need-returns-2
-returns-2 c = let a = c .before .before .before .before .before .before .before .before .args in
+returns-2 c = let a = c .before .before .before .before .before .before .before .args in
     c .put-banked .ensures
     ∙ ap (putBanked (a .x) (a .member) (a .token))
     (c .before .withdraw .ensures
     ∙ ap₂ (λ (row : Row) (supply : Amount). withdrawOn row supply (a .token) (a .amount)) (c .before .before .before .row-of .ensures) (c .before .before .supply-at .ensures))
-    ∙ sym (withdraw-on (a .x) (a .member) (a .token) (a .amount) ∙ after-good (a .x) _ (formed (c .before .before .before .before .before)))
+    ∙ sym (withdraw-on (a .x) (a .member) (a .token) (a .amount) ∙ after-good (a .x) _ (formed (c .before .before .before .before)))
 
 pub withdraw-spec : {M : Type 1} → statement M
 withdraw-spec =

@@ -37,11 +37,11 @@ enum-told : tie.Need-enum-told
 enum-told c = search needs
 
 row-of-requires : tie.Need-row-of-requires
-row-of-requires c κs = omega (arith, good (c .before .before) .2)
+row-of-requires c κs = omega (arith, good c .2)
 
 market-at-requires : tie.Need-market-at-requires
 market-at-requires c κs =
-    let g = good (c .before .before .before) in
+    let g = good (c .before) in
     (omega (arith, g .0), omega (arith, g .1))
 
 side-of-requires : tie.Need-side-of-requires
@@ -49,9 +49,9 @@ side-of-requires c κs = search needs
 
 bid-requires : tie.Need-bid-requires
 bid-requires c κs =
-    let start = c .before .before .before .before .before .before .before .before in
+    let start = c .before .before .before .before .before .before in
     let a = start .args in
-    let g = good (c .before .before .before .before .before) in
+    let g = good (c .before .before .before) in
     λ r e.
     subst (λ (row : Row). BidBounds r row (a .x .last) (a .market)) (sym (c .before .before .row-of .ensures))
     (bid-bounds (a .x) (reachable-bounded (a .x) (start .pre)) (a .market) (a .member) (g .0) (g .1) (g .2) r
@@ -59,7 +59,7 @@ bid-requires c κs =
 
 put-traded-requires : tie.Need-put-traded-requires
 put-traded-requires c κs =
-    let g = good (c .before .before .before .before .before .before) in
+    let g = good (c .before .before .before .before) in
     (omega (arith, g .0), omega (arith, g .1), omega (arith, g .2))
 
 returns : tie.Need-returns
@@ -72,18 +72,18 @@ returns c =
 
 -- the work, on the parts taken out
 worked : (c : tie.After-bid) →
-    let a = c .before .before .before .before .before .before .before .before .before .args in
+    let a = c .before .before .before .before .before .before .before .args in
     c .bid .result ≡ bidOn (marketAt (a .x .markets) (a .market)) (rowOf (a .x .ledger) (a .member)) (a .x .last) (a .market) (a .block) (sideOf (a .side)) (a .base) (a .bound)
 worked c = rw (c .bid .ensures, c .before .before .market-at .ensures, c .before .before .before .row-of .ensures, c .before .side-of .ensures)
 
 returns-2 : tie.Need-returns-2
 returns-2 c =
-    let start = c .before .before .before .before .before .before .before .before .before .before in
+    let start = c .before .before .before .before .before .before .before .before in
     let a = start .args in
     c .put-traded .ensures
     ∙ ap (putTraded (a .x) (a .market) (a .member)) (worked (c .before))
     ∙ sym (bid-on (a .x) (a .market) (a .member) (a .block) (reachable-bounded (a .x) (start .pre) .rows) (a .side) (a .base) (a .bound)
-    ∙ after-good (a .x) _ (formed (c .before .before .before .before .before .before .before)))
+    ∙ after-good (a .x) _ (formed (c .before .before .before .before .before)))
 
 pub bid-spec : {M : Type 1} → statement M
 bid-spec =

@@ -23,7 +23,7 @@ element-set-from-m c = search needs
 
 returns : tie.Need-returns
 returns c =
-    let a = c .before .before .before .before .before .args in
+    let a = c .before .before .before .args in
     rw (c .with-row .ensures, sym (set-market-place (a .x .markets) (a .market) (a .p .market) (omega arith)))
 
 pub put-traded-spec : {M : Type 1} → statement M

@@ -31,7 +31,7 @@ enum-told c = search needs
 
 market-at-requires : tie.Need-market-at-requires
 market-at-requires c κs =
-    let g = good (c .before) in
+    let g = good c in
     (omega (arith, g .0), omega (arith, g .1))
 
 settle-requires : tie.Need-settle-requires
@@ -39,7 +39,7 @@ settle-requires c κs = search needs
 
 put-moved-requires : tie.Need-put-moved-requires
 put-moved-requires c κs =
-    let g = good (c .before .before .before) in
+    let g = good (c .before .before) in
     (omega (arith, g .0), omega (arith, g .1))
 
 returns : tie.Need-returns
@@ -51,11 +51,11 @@ returns c =
 
 returns-2 : tie.Need-returns-2
 returns-2 c =
-    let a = c .before .before .before .before .before .before .before .args in
+    let a = c .before .before .before .before .before .before .args in
     c .put-moved .ensures
     ∙ ap (putMoved (a .x) (a .market))
     (c .before .settle .ensures ∙ ap (λ (m : Market). settleOn m (a .x .last) (a .block)) (c .before .before .market-at .ensures))
-    ∙ sym (settle-on (a .x) (a .market) (a .block) ∙ after-good (a .x) _ (formed (c .before .before .before .before)))
+    ∙ sym (settle-on (a .x) (a .market) (a .block) ∙ after-good (a .x) _ (formed (c .before .before .before)))
 
 pub settle-spec : {M : Type 1} → statement M
 settle-spec =

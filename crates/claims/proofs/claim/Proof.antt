@@ -41,7 +41,7 @@ returns c =
 
 returns-2 : tie.Need-returns-2
 returns-2 c =
-    let m = c .before .before .before .before .before .before .before in
+    let m = c .before .before .before .before .before .before in
     let start = m .before .before .before .before .before .before in
     let a = start .args in
     c .put-claimed .ensures
@@ -52,16 +52,15 @@ returns-2 c =
 
 row-of-requires : tie.Need-row-of-requires
 row-of-requires c κs =
-    let m = c .before in
-    let start = m .before .before .before .before .before .before in
+    let start = c .before .before .before .before .before .before in
     let a = start .args in
-    let p = claim-places (a .x) (start .pre) (a .ticket) _ (m .before .before .before .before .before .form-of .ensures) (m .before .before .before .enum-told .given .1) _ _ _
-    (m .before .before .ticket-at .ensures) (m .before .ticket-market .ensures) (m .ticket-member .ensures) in
+    let p = claim-places (a .x) (start .pre) (a .ticket) _ (c .before .before .before .before .before .form-of .ensures) (c .before .before .before .enum-told .given .1) _ _ _
+    (c .before .before .ticket-at .ensures) (c .before .ticket-market .ensures) (c .ticket-member .ensures) in
     omega (arith, p .3)
 
 market-at-requires : tie.Need-market-at-requires
 market-at-requires c κs =
-    let m = c .before .before in
+    let m = c .before in
     let start = m .before .before .before .before .before .before in
     let a = start .args in
     let p = claim-places (a .x) (start .pre) (a .ticket) _ (m .before .before .before .before .before .form-of .ensures) (m .before .before .before .enum-told .given .1) _ _ _
@@ -73,7 +72,7 @@ residue-at-requires c κs = search needs
 
 residue-at-requires-2 : tie.Need-residue-at-requires-2
 residue-at-requires-2 c κs =
-    let m = c .before .before .before .before in
+    let m = c .before .before .before in
     let start = m .before .before .before .before .before .before in
     let a = start .args in
     let p = claim-places (a .x) (start .pre) (a .ticket) _ (m .before .before .before .before .before .form-of .ensures) (m .before .before .before .enum-told .given .1) _ _ _
@@ -82,7 +81,7 @@ residue-at-requires-2 c κs =
 
 claim-requires : tie.Need-claim-requires
 claim-requires c κs =
-    let m = c .before .before .before .before .before in
+    let m = c .before .before .before .before in
     let start = m .before .before .before .before .before .before in
     let a = start .args in (
       ticket-below (a .x) (start .pre) (a .ticket) _ (m .before .before .before .before .before .form-of .ensures) (m .before .before .before .enum-told .given .1),
@@ -93,7 +92,7 @@ claim-requires c κs =
 
 put-claimed-requires : tie.Need-put-claimed-requires
 put-claimed-requires c κs =
-    let m = c .before .before .before .before .before .before in
+    let m = c .before .before .before .before .before in
     let start = m .before .before .before .before .before .before in
     let a = start .args in
     let p = claim-places (a .x) (start .pre) (a .ticket) _ (m .before .before .before .before .before .form-of .ensures) (m .before .before .before .enum-told .given .1) _ _ _

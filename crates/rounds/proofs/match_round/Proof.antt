@@ -32,16 +32,16 @@ bounds : (c : tie.After-enum-told) → let a = c .before .before .before .args i
 bounds c = market-in (c .before .before .before .args .market) (good c)
 
 market-at-requires : tie.Need-market-at-requires
-market-at-requires c κs = let b = bounds (c .before) in omega arith
+market-at-requires c κs = let b = bounds c in omega arith
 
 match-round-requires : tie.Need-match-round-requires
 match-round-requires c κs =
-    let s = c .before .before .before .before .before in
-    let b = bounds (c .before .before) in
+    let s = c .before .before .before .before in
+    let b = bounds (c .before) in
     match-asks (s .args .x) (s .pre) (s .args .market) (b .0) (b .1) _ (c .market-at .ensures)
 
 put-moved-requires : tie.Need-put-moved-requires
-put-moved-requires c κs = let b = bounds (c .before .before .before) in omega arith
+put-moved-requires c κs = let b = bounds (c .before .before) in omega arith
 
 returns : tie.Need-returns
 returns c =
@@ -51,13 +51,13 @@ returns c =
 
 returns-2 : tie.Need-returns-2
 returns-2 c =
-    let a = c .before .before .before .before .before .before .before .args in
+    let a = c .before .before .before .before .before .before .args in
     let work =
     c .before .match-round .ensures
     ∙ ap (λ (m : Market). matchOn m (a .x .last) (a .block)) (c .before .before .market-at .ensures) in
     c .put-moved .ensures
     ∙ ap (putMoved (a .x) (a .market)) work
-    ∙ sym (match-on (a .x) (a .market) (a .block) ∙ after-good _ _ (good (c .before .before .before .before)))
+    ∙ sym (match-on (a .x) (a .market) (a .block) ∙ after-good _ _ (good (c .before .before .before)))
 
 pub match-round-spec : {M : Type 1} → statement M
 match-round-spec =

@@ -32,13 +32,13 @@ bounds : (c : tie.After-enum-told) →
 bounds c = let a = c .before .before .before .args in open-places (a .market) (a .reference) (a .slack) (a .length) (good c)
 
 market-at-requires : tie.Need-market-at-requires
-market-at-requires c κs = let b = bounds (c .before) in omega arith
+market-at-requires c κs = let b = bounds c in omega arith
 
 open-requires : tie.Need-open-requires
-open-requires c κs = let b = bounds (c .before .before) in omega arith
+open-requires c κs = let b = bounds (c .before) in omega arith
 
 put-moved-requires : tie.Need-put-moved-requires
-put-moved-requires c κs = let b = bounds (c .before .before .before) in omega arith
+put-moved-requires c κs = let b = bounds (c .before .before) in omega arith
 
 returns : tie.Need-returns
 returns c =
@@ -49,13 +49,13 @@ returns c =
 
 returns-2 : tie.Need-returns-2
 returns-2 c =
-    let a = c .before .before .before .before .before .before .before .args in
+    let a = c .before .before .before .before .before .before .args in
     let work =
     c .before .«open» .ensures
     ∙ ap (λ (m : Market). openOn m (a .x .last) (a .block) (a .reference) (a .slack) (a .length)) (c .before .before .market-at .ensures) in
     c .put-moved .ensures
     ∙ ap (putMoved (a .x) (a .market)) work
-    ∙ sym (open-on (a .x) (a .market) (a .block) (a .reference) (a .slack) (a .length) ∙ after-good _ _ (good (c .before .before .before .before)))
+    ∙ sym (open-on (a .x) (a .market) (a .block) (a .reference) (a .slack) (a .length) ∙ after-good _ _ (good (c .before .before .before)))
 
 pub open-spec : {M : Type 1} → statement M
 open-spec =

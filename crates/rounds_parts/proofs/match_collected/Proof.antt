@@ -29,7 +29,7 @@ unmoved-market-requires-2 c κs = search needs
 
 returns-2 : tie.Need-returns-2
 returns-2 c =
-    let s = c .before .before .before .before .before .before .before .before in
+    let s = c .before .before .before .before .before .before .before in
     let a = s .args in
     c .unmoved-market2 .ensures ∙ sym (match-early (a .market) (a .last) (a .block .0) (a .r) (s .pre .0) (omega arith) (omega arith))
 
@@ -38,10 +38,10 @@ trade-within-requires c κs = search needs
 
 returns-3 : tie.Need-returns-3
 returns-3 c =
-    let s = c .before .before .before .before .before .before .before .before .before .before .before .before .before .before .before .before in
+    let s = c .before .before .before .before .before .before .before .before .before .before .before in
     let a = s .args in
-    let h = c .before .before .before .before .before .before .before .before .before .before .before .before .before .if1 .left in
-    let k = c .before .before .before .before .before .before .before .before .before .if2 .left in
+    let h = c .before .before .before .before .before .before .before .before .if1 .left in
+    let k = c .before .before .before .before .before .if2 .left in
     ap (matchedWith (a .r) (a .block .0)) (c .before .before .trade-within .ensures)
     ∙ sym (match-done (a .market) (a .last) (a .block .0) (a .r) (s .pre .0) (omega (arith, h)) (omega (arith, k)))
 
