@@ -71,8 +71,8 @@ pub fn deposit(x: Exchange, member: u32, token: u32, amount: u32) -> Outcome
         Form::Bad(why) => refused(x, why),
         Form::Good => {
             let row = row_of(x.ledger, member);
-            let p = accounts_parts::deposit(row, supply_at(x, token), token, Amount(amount));
-            put_banked(x, member, token, p)
+            let paid_in = accounts_parts::deposit(row, supply_at(x, token), token, Amount(amount));
+            put_banked(x, member, token, paid_in)
         }
     }
 }
@@ -91,8 +91,13 @@ pub fn withdraw(x: Exchange, member: u32, token: u32, amount: u32) -> Outcome
         Form::Bad(why) => refused(x, why),
         Form::Good => {
             let row = row_of(x.ledger, member);
-            let p = accounts_parts::withdraw(row, supply_at(x, token), token, Amount(amount));
-            put_banked(x, member, token, p)
+            let paid_out = accounts_parts::withdraw(
+                row,
+                supply_at(x, token),
+                token,
+                Amount(amount),
+            );
+            put_banked(x, member, token, paid_out)
         }
     }
 }
@@ -129,8 +134,8 @@ pub fn order(
                 offer: Amount(amount),
             };
             let row = row_of(x.ledger, member);
-            let p = accounts_parts::order(row, ticket_at(x, ticket), o);
-            put_placed(x, member, ticket, p)
+            let placed = accounts_parts::order(row, ticket_at(x, ticket), o);
+            put_placed(x, member, ticket, placed)
         }
     }
 }
@@ -145,8 +150,8 @@ pub fn cancel(x: Exchange, ticket: u32, member: u32) -> Outcome
         Form::Bad(why) => refused(x, why),
         Form::Good => {
             let row = row_of(x.ledger, member);
-            let p = accounts_parts::cancel(row, ticket_at(x, ticket), member);
-            put_placed(x, member, ticket, p)
+            let cancelled = accounts_parts::cancel(row, ticket_at(x, ticket), member);
+            put_placed(x, member, ticket, cancelled)
         }
     }
 }

@@ -108,10 +108,10 @@ pub fn order(row: Row, ticket: Ticket, o: Order) -> Placed
         return refused(row, ticket, Refusal::InsufficientBalance);
     }
     let p = debit_row(row, token, offer);
-    let debited = p.row;
+    let reserved = p.row;
     Placed {
         answer: Answer::Accepted(offer.0, 0),
-        row: debited,
+        row: reserved,
         ticket: Ticket {
             state: TicketState::Resting(o),
         },
@@ -133,20 +133,20 @@ pub fn cancel(row: Row, ticket: Ticket, member: u32) -> Placed
             let side = o.side;
             let offer = o.offer;
             let p = credit_row(row, offered_token(side, o.market), offer);
-            let credited = p.row;
+            let returned = p.row;
             Placed {
                 answer: Answer::Accepted(offer.0, 0),
-                row: credited,
+                row: returned,
                 ticket: Ticket {
                     state: TicketState::Free,
                 },
             }
         }
         TicketState::Entered(o) => {
-            if o.member != member {
-                return refused(row, ticket, Refusal::NoSuchOrder);
+            if o.member == member {
+                return refused(row, ticket, Refusal::WrongTicketState);
             }
-            refused(row, ticket, Refusal::WrongTicketState)
+            refused(row, ticket, Refusal::NoSuchOrder)
         }
     }
 }

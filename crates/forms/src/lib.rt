@@ -15,14 +15,35 @@ use model::answer::Refusal;
 use model::call::Call;
 use model::parts::Form;
 
+// The numbers that a call may name.
+const LAST_MEMBER: u32 = 15;
+
+const LAST_TOKEN: u32 = 3;
+
+const FIRST_MARKET: u32 = 1;
+
+const LAST_MARKET: u32 = 3;
+
+const LAST_TICKET: u32 = 63;
+
+const LAST_SIDE: u32 = 1;
+
+const HIGHEST_LIMIT: u32 = 2_000_000_000;
+
+const HIGHEST_REFERENCE: u32 = 1_000_000_000;
+
+const WIDEST_SLACK: u32 = 500_000;
+
+const LONGEST_AUCTION: u32 = 64;
+
 // Deposit and withdraw.
 fn bank_form(member: u32, token: u32, amount: u32) -> Form
     ensures { λ r. ⌜ r ≡ formOf (bankForm member token amount) ⌝ }
 {
-    if 15 < member {
+    if LAST_MEMBER < member {
         return Form::Bad(Refusal::NoSuchMember);
     }
-    if 3 < token {
+    if LAST_TOKEN < token {
         return Form::Bad(Refusal::NoSuchToken);
     }
     if amount == 0 {
@@ -35,19 +56,19 @@ fn bank_form(member: u32, token: u32, amount: u32) -> Form
 fn order_form(ticket: u32, member: u32, market: u32, side: u32, limit: u32, amount: u32) -> Form
     ensures { λ r. ⌜ r ≡ formOf (orderForm ticket member market side limit amount) ⌝ }
 {
-    if 15 < member {
+    if LAST_MEMBER < member {
         return Form::Bad(Refusal::NoSuchMember);
     }
-    if market < 1 {
+    if market < FIRST_MARKET {
         return Form::Bad(Refusal::NoSuchMarket);
     }
-    if 3 < market {
+    if LAST_MARKET < market {
         return Form::Bad(Refusal::NoSuchMarket);
     }
-    if 63 < ticket {
+    if LAST_TICKET < ticket {
         return Form::Bad(Refusal::NoSuchTicket);
     }
-    if 1 < side {
+    if LAST_SIDE < side {
         return Form::Bad(Refusal::NoSuchSide);
     }
     if amount == 0 {
@@ -56,7 +77,7 @@ fn order_form(ticket: u32, member: u32, market: u32, side: u32, limit: u32, amou
     if limit < 1 {
         return Form::Bad(Refusal::BadAmountOrLimit);
     }
-    if 2_000_000_000 < limit {
+    if HIGHEST_LIMIT < limit {
         return Form::Bad(Refusal::BadAmountOrLimit);
     }
     Form::Good
@@ -66,10 +87,10 @@ fn order_form(ticket: u32, member: u32, market: u32, side: u32, limit: u32, amou
 fn cancel_form(ticket: u32, member: u32) -> Form
     ensures { λ r. ⌜ r ≡ formOf (cancelForm ticket member) ⌝ }
 {
-    if 15 < member {
+    if LAST_MEMBER < member {
         return Form::Bad(Refusal::NoSuchMember);
     }
-    if 63 < ticket {
+    if LAST_TICKET < ticket {
         return Form::Bad(Refusal::NoSuchTicket);
     }
     Form::Good
@@ -79,25 +100,25 @@ fn cancel_form(ticket: u32, member: u32) -> Form
 fn open_form(market: u32, reference: u32, slack: u32, length: u32) -> Form
     ensures { λ r. ⌜ r ≡ formOf (openForm market reference slack length) ⌝ }
 {
-    if market < 1 {
+    if market < FIRST_MARKET {
         return Form::Bad(Refusal::NoSuchMarket);
     }
-    if 3 < market {
+    if LAST_MARKET < market {
         return Form::Bad(Refusal::NoSuchMarket);
     }
     if reference < 1 {
         return Form::Bad(Refusal::BadTerms);
     }
-    if 1_000_000_000 < reference {
+    if HIGHEST_REFERENCE < reference {
         return Form::Bad(Refusal::BadTerms);
     }
-    if 500_000 < slack {
+    if WIDEST_SLACK < slack {
         return Form::Bad(Refusal::BadTerms);
     }
     if length < 1 {
         return Form::Bad(Refusal::BadTerms);
     }
-    if 64 < length {
+    if LONGEST_AUCTION < length {
         return Form::Bad(Refusal::BadTerms);
     }
     Form::Good
@@ -107,7 +128,7 @@ fn open_form(market: u32, reference: u32, slack: u32, length: u32) -> Form
 fn ticket_form(ticket: u32) -> Form
     ensures { λ r. ⌜ r ≡ formOf (ticketForm ticket) ⌝ }
 {
-    if 63 < ticket {
+    if LAST_TICKET < ticket {
         return Form::Bad(Refusal::NoSuchTicket);
     }
     Form::Good
@@ -117,10 +138,10 @@ fn ticket_form(ticket: u32) -> Form
 fn market_form(market: u32) -> Form
     ensures { λ r. ⌜ r ≡ formOf (marketForm market) ⌝ }
 {
-    if market < 1 {
+    if market < FIRST_MARKET {
         return Form::Bad(Refusal::NoSuchMarket);
     }
-    if 3 < market {
+    if LAST_MARKET < market {
         return Form::Bad(Refusal::NoSuchMarket);
     }
     Form::Good
@@ -130,16 +151,16 @@ fn market_form(market: u32) -> Form
 fn bid_form(market: u32, member: u32, side: u32, base: u32) -> Form
     ensures { λ r. ⌜ r ≡ formOf (bidForm market member side base) ⌝ }
 {
-    if 15 < member {
+    if LAST_MEMBER < member {
         return Form::Bad(Refusal::NoSuchMember);
     }
-    if market < 1 {
+    if market < FIRST_MARKET {
         return Form::Bad(Refusal::NoSuchMarket);
     }
-    if 3 < market {
+    if LAST_MARKET < market {
         return Form::Bad(Refusal::NoSuchMarket);
     }
-    if 1 < side {
+    if LAST_SIDE < side {
         return Form::Bad(Refusal::NoSuchSide);
     }
     if base == 0 {

@@ -27,8 +27,8 @@ pub fn residue_at(x: Exchange, token: u32) -> Amount
     requires { ⌜ token < 4 ⌝ }
     ensures { λ r. ⌜ r ≡ residueAt x token ⌝ }
 {
-    let t = token as usize;
-    x.residue[t]
+    let n = token as usize;
+    x.residue[n]
 }
 
 // A ticket.
@@ -45,8 +45,8 @@ pub fn market_at(x: Exchange, market: u32) -> Market
     requires { ⌜ (0 < market) × (market < 4) ⌝ }
     ensures { λ r. ⌜ r ≡ marketAt (x .markets) market ⌝ }
 {
-    let n = (market - 1) as usize;
-    x.markets[n]
+    let m = (market - 1) as usize;
+    x.markets[m]
 }
 
 // A refusal leaves the state.
@@ -67,9 +67,9 @@ pub fn put_moved(x: Exchange, market: u32, p: Moved) -> Outcome
     let answer = p.answer;
     let moved = p.market;
     let last = p.last;
-    let n = (market - 1) as usize;
+    let at = (market - 1) as usize;
     let mut next = x;
-    next.markets[n] = moved;
+    next.markets[at] = moved;
     next.last = last;
     Outcome {
         answer,

@@ -39,7 +39,7 @@ refused-requires-3 c κs = search needs
 
 returns-2 : tie.Need-returns-2
 returns-2 c = let a = c .before .before .before .before .before .before .args in
-    c .refused3 .ensures ∙ sym (cancel-entered-other (a .row) (a .ticket) (a .member) _ (c .before .before .before .before .state2 .given .1) (c .before .if2 .taken))
+    c .refused3 .ensures ∙ sym (cancel-entered-own (a .row) (a .ticket) (a .member) _ (c .before .before .before .before .state2 .given .1) (c .before .if2 .taken))
 
 refused-requires-4 : tie.Need-refused-requires-4
 refused-requires-4 c κs = search needs
@@ -62,7 +62,7 @@ returns-4 c = let a = c .before .before .before .before .before .before .before 
 
 returns-5 : tie.Need-returns-5
 returns-5 c = let a = c .before .before .before .before .before .before .args in
-    c .refused4 .ensures ∙ sym (cancel-entered-own (a .row) (a .ticket) (a .member) _ (c .before .before .before .before .state2 .given .1) (c .before .if2 .left))
+    c .refused4 .ensures ∙ sym (cancel-entered-other (a .row) (a .ticket) (a .member) _ (c .before .before .before .before .state2 .given .1) (c .before .if2 .left))
 
 pub cancel-spec : {M : Type 1} → statement M
 cancel-spec =

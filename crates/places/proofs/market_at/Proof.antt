@@ -5,11 +5,11 @@ use borrow.Author.Needs.{needs}
 use Rattle.places.proofs.market_at.Statement.{statement}
 use Rattle.places.proofs.market_at.Tie as tie
 
-sub-n : tie.Need-sub-n
-sub-n c = search needs
+sub-m : tie.Need-sub-m
+sub-m c = search needs
 
-cast-n : tie.Need-cast-n
-cast-n c = search needs
+cast-m : tie.Need-cast-m
+cast-m c = search needs
 
 mul-result : tie.Need-mul-result
 mul-result c = search needs
@@ -23,4 +23,4 @@ returns c =
     market-place (a .t1 .markets) (a .market) (omega arith)
 
 pub market-at-spec : {M : Type 1} → statement M
-market-at-spec = tie.close (tie.spec sub-n cast-n mul-result element-copy-out-result returns)
+market-at-spec = tie.close (tie.spec sub-m cast-m mul-result element-copy-out-result returns)

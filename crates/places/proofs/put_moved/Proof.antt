@@ -6,11 +6,11 @@ use borrow.Author.Needs.{needs}
 use Rattle.places.proofs.put_moved.Statement.{statement}
 use Rattle.places.proofs.put_moved.Tie as tie
 
-sub-n : tie.Need-sub-n
-sub-n c = search needs
+sub-at : tie.Need-sub-at
+sub-at c = search needs
 
-cast-n : tie.Need-cast-n
-cast-n c = search needs
+cast-at : tie.Need-cast-at
+cast-at c = search needs
 
 mul-moved : tie.Need-mul-moved
 mul-moved c = search needs
@@ -24,4 +24,4 @@ returns c =
     rw (sym (set-market-place (a .x .markets) (a .market) (a .p .market) (omega arith)))
 
 pub put-moved-spec : {M : Type 1} → statement M
-put-moved-spec = tie.close (tie.spec sub-n cast-n mul-moved element-set-from-moved returns)
+put-moved-spec = tie.close (tie.spec sub-at cast-at mul-moved element-set-from-moved returns)

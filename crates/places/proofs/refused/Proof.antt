@@ -1,0 +1,10 @@
+-- `places::refused` meets its contract.
+use mathlib.Core.Path.{refl}
+use Rattle.places.proofs.refused.Statement.{statement}
+use Rattle.places.proofs.refused.Tie as tie
+
+returns : tie.Need-returns
+returns c = refl
+
+pub refused-spec : {M : Type 1} → statement M
+refused-spec = tie.close (tie.spec returns)

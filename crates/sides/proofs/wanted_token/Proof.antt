@@ -1,0 +1,19 @@
+-- `sides::wanted_token` meets its contract.
+use borrow.Author.Needs.{needs}
+use Rattle.sides.proofs.wanted_token.Statement.{statement}
+use Rattle.sides.proofs.wanted_token.Tie as tie
+
+enum-told : tie.Need-enum-told
+enum-told c = search needs
+
+enum-told-2 : tie.Need-enum-told-2
+enum-told-2 c = search needs
+
+returns : tie.Need-returns
+returns c = search needs
+
+returns-2 : tie.Need-returns-2
+returns-2 c = search needs
+
+pub wanted-token-spec : {M : Type 1} → statement M
+wanted-token-spec = tie.close (tie.spec enum-told enum-told-2 returns returns-2)
