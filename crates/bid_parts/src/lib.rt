@@ -5,12 +5,11 @@ ghost use Prim.Native.Nat.{_+_, _-_, _<_, _≤_};
 ghost use Rattle.units.specs.Counts.{amount, largest};
 ghost use Rattle.pricing.specs.declared.Side.the-variants.{Buy, Sell};
 ghost use Rattle.ledger.specs.Balances.{RowShaped, cellOf, creditedRow, debitedRow};
-ghost use Rattle.model.specs.declared.state.Round.{Round};
 ghost use Rattle.model.specs.declared.state.Phase.the-variants.{Auction};
 ghost use Rattle.model.specs.Sides.{offered, wanted, gives, takes};
 ghost use Rattle.model.specs.State.{totalsOf};
 ghost use Rattle.model.specs.Calls.{bidQuote, notAvailable, boundMissed, plusTrade, bidRound};
-ghost use Rattle.model.specs.Bounds.{RoundBounds, BidBounds};
+ghost use Rattle.model.specs.Bounds.{RoundBounds, BidBounds, BidFits};
 ghost use Rattle.model.specs.Parts.{untraded, bidOn};
 ghost use Rattle.bid_parts.specs.Steps.{TradeFits, tradeOn};
 use ledger::Row;
@@ -253,7 +252,7 @@ pub fn bid(
     n: Amount,
     bound: Amount,
 ) -> Traded
-    requires { ⌜ ((r : Round) → market .phase ≡ Auction r → BidBounds r row last number) ⌝ }
+    requires { ⌜ BidFits market row last number ⌝ }
     ensures { λ p. ⌜ p ≡ bidOn market row last number (block .0) side (n .0) (bound .0) ⌝ }
 {
     let phase = market.phase;

@@ -3,14 +3,10 @@ ghost use mathlib.Core.Path.{_≡_};
 ghost use Prim.Native.Nat.{_<_, _≤_, _+_, _-_};
 ghost use Rattle.units.specs.Counts.{amount, largest};
 ghost use Rattle.ledger.specs.Balances.{cellOf};
-ghost use Rattle.model.specs.declared.state.Order.{Order};
-ghost use Rattle.model.specs.declared.state.Round.{Round};
-ghost use Rattle.model.specs.declared.state.TicketState.the-variants.{Entered};
-ghost use Rattle.model.specs.declared.state.Phase.the-variants.{Paying};
 ghost use Rattle.model.specs.Sides.{bySide, wanted};
 ghost use Rattle.model.specs.State.{restingOr, totalsOf, closedMarket};
 ghost use Rattle.model.specs.Calls.{claimedRound};
-ghost use Rattle.model.specs.Bounds.{PayBounds, shareIn, gotIn};
+ghost use Rattle.model.specs.Bounds.{PayBounds, ClaimFits, shareIn, gotIn};
 ghost use Rattle.model.specs.Parts.{unclaimed, paidOn, claimOn};
 use ledger::Row;
 use ledger::credit_row;
@@ -211,8 +207,7 @@ pub fn claim(
     base: Amount,
     ticket: u32,
 ) -> Claimed
-    requires { ⌜ (ticket < 64)
-        × ((o : Order) (r : Round) → t .state ≡ Entered o → market .phase ≡ Paying r → PayBounds o r row quote base ticket) ⌝ }
+    requires { ⌜ (ticket < 64) × ClaimFits t market row quote base ticket ⌝ }
     ensures { λ c. ⌜ c ≡ claimOn t market row quote base ticket ⌝ }
 {
     let state = t.state;

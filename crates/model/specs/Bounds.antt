@@ -162,6 +162,9 @@ pub record BidBounds (r : Round) (row : Row) (last : Block) (number : ℕ) : Typ
   pub cells : RowShaped row
   pub beside : (side : Side) → cellOf row (offered side number) + heldIn r side ≤ largest
 
+abbrev pub BidFits : Market → Row → Block → ℕ → Type 0
+BidFits market row last number = (r : Round) → market .phase ≡ Auction r → BidBounds r row last number
+
 -- claim: the round covers it, and what the round holds fits beside any balance and the residue
 pub record PayBounds (o : Order) (r : Round) (row : Row) (quote base : Amount) (k : ℕ) : Type 0 where
   pub order : OrderBounds o
@@ -170,3 +173,7 @@ pub record PayBounds (o : Order) (r : Round) (row : Row) (quote base : Amount) (
   pub balance-fits : cellOf row (wanted (o .side) (o .market)) + heldIn r (other (o .side)) ≤ largest
   pub quote-fits : quote .0 + heldIn r Buy ≤ largest
   pub base-fits : base .0 + heldIn r Sell ≤ largest
+
+abbrev pub ClaimFits : Ticket → Market → Row → Amount → Amount → ℕ → Type 0
+ClaimFits t market row quote base k =
+    (o : Order) (r : Round) → t .state ≡ Entered o → market .phase ≡ Paying r → PayBounds o r row quote base k

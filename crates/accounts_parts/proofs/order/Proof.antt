@@ -4,7 +4,14 @@ use native.Mathlib.Omega.{arith}
 use borrow.Author.Tests.{lt-ltb, le-ltb}
 use Prim.Native.Nat.{ℕ, _≤_}
 use Rattle.units.specs.declared.Amount.{Amount}
-use Rattle.ledger.specs.Balances.{cellOf}
+use Rattle.ledger.specs.declared.Row.{Row}
+use Rattle.ledger.specs.declared.RowPosting.{RowPosting}
+use Rattle.ledger.specs.Balances.{cellOf, debitedRow}
+use Rattle.ledger.specs.Postings.{debitRowOf}
+use Rattle.model.specs.declared.state.Order.{Order}
+use Rattle.model.specs.declared.state.TicketState.the-variants.{Resting}
+use Rattle.model.specs.declared.answer.Answer.the-variants.{Accepted}
+use Rattle.model.specs.declared.parts.Placed.{Placed}
 use Rattle.model.specs.Sides.{offered}
 use Rattle.model.proofs.Frames.{offered-lt}
 use Rattle.ledger.proofs.Laws.{debit-row-done}
@@ -43,19 +50,23 @@ returns-2 c = let a = c .before .before .before .before .before .before .before 
 debit-row-requires : tie.Need-debit-row-requires
 debit-row-requires c κs = search needs
 
+-- an accepted order, with the row that is left
+ordered : Order → Row → Placed
+ordered o row = record { answer = Accepted (o .offer .0) 0; row = row; ticket = record { state = Resting o } }
+
 returns-3 : tie.Need-returns-3
-unfolding orderOn
-returns-3 c = let a = c .before .before .before .before .before .before .before .before .before .before .args in
+unfolding orderOn ordered
+returns-3 c = let start = c .before .before .before .before .before .before .before .before .before .before in
+    let a = start .args in
     let t : ℕ = offered (a .o .side) (a .o .market) in
     let held : c .before .before .before .before .before .cell-of .result .0 ≡ cellOf (a .row) t = ap (λ (n : Amount). n .0) (c .before .before .before .before .before .cell-of .ensures) ∙ ap (cellOf (a .row)) (c .before .before .before .before .before .before .offered-token .ensures) in
     let le : a .o .offer .0 ≤ cellOf (a .row) t = omega (arith, held, c .before .before .if2 .left) in
-    rw (
-      c .before .debit-row .ensures,
-      c .before .before .before .before .before .before .offered-token .ensures,
-      debit-row-done (a .row) t (a .o .offer .0) (omega (arith, offered-lt (a .o .side) (a .o .market) (c .before .before .before .before .before .before .before .before .before .before .pre))) le,
-      sym (c .before .before .before .before .before .before .before .before .before .in-use .ensures) ∙ c .before .before .before .before .before .before .before .before .if1 .left,
-      le-ltb (cellOf (a .row) t) (a .o .offer .0) le,
-    )
+    let free = sym (c .before .before .before .before .before .before .before .before .before .in-use .ensures) ∙ c .before .before .before .before .before .before .before .before .if1 .left in
+    let reserved : c .before .debit-row .result ≡ debitRowOf (a .row) t (a .o .offer .0) =
+    c .before .debit-row .ensures ∙ ap (λ (u : ℕ). debitRowOf (a .row) u (a .o .offer .0)) (c .before .before .before .before .before .before .offered-token .ensures) in
+    let done : ordered (a .o) (debitedRow (a .row) t (a .o .offer .0)) ≡ orderOn (a .row) (a .ticket) (a .o) = rw (free, le-ltb (cellOf (a .row) t) (a .o .offer .0) le) in
+    ap (λ (p : RowPosting). ordered (a .o) (p .row)) (reserved ∙ debit-row-done (a .row) t (a .o .offer .0) (omega (arith, offered-lt (a .o .side) (a .o .market) (start .pre))) le)
+    ∙ done
 
 pub order-spec : {M : Type 1} → statement M
 order-spec =
