@@ -8,6 +8,7 @@ use Rattle.model.specs.declared.state.Ticket.{Ticket}
 use Rattle.model.specs.Parts.{formOf, cancelForm, cancelOn, putPlaced}
 use Rattle.model.proofs.OnParts.{after-bad, after-good, cancel-places, cancel-on}
 use Rattle.model.proofs.PartBounds.{cancel-bounds}
+use native.Mathlib.Omega.{arith}
 use borrow.Author.Needs.{needs}
 use Rattle.accounts.proofs.cancel.Statement.{statement}
 use Rattle.accounts.proofs.cancel.Tie as tie
@@ -32,10 +33,10 @@ enum-told : tie.Need-enum-told
 enum-told c = search needs
 
 row-of-requires : tie.Need-row-of-requires
-row-of-requires c κs = good c .1
+row-of-requires c κs = let g = good c in omega arith
 
 ticket-at-requires : tie.Need-ticket-at-requires
-ticket-at-requires c κs = good (c .before) .0
+ticket-at-requires c κs = let g = good (c .before) in omega arith
 
 cancel-requires : tie.Need-cancel-requires
 cancel-requires c κs = let s = c .before .before .before .before .before in
@@ -43,7 +44,7 @@ cancel-requires c κs = let s = c .before .before .before .before .before in
     rw (c .before .row-of .ensures, c .ticket-at .ensures) (cancel-bounds (s .args .x) (reachable-bounded (s .args .x) (s .pre)) (s .args .member) (s .args .ticket) (g .1) (g .0))
 
 put-placed-requires : tie.Need-put-placed-requires
-put-placed-requires c κs = let g = good (c .before .before .before) in (g .1, g .0)
+put-placed-requires c κs = let g = good (c .before .before .before) in omega arith
 
 returns : tie.Need-returns
 returns c = let a = c .before .before .before .before .before .args in

@@ -8,6 +8,7 @@ use Rattle.ledger.specs.declared.Row.{Row}
 use Rattle.model.specs.Parts.{formOf, bankForm, depositOn, putBanked}
 use Rattle.model.proofs.OnParts.{after-bad, after-good, bank-places, deposit-on}
 use Rattle.model.proofs.PartBounds.{bank-bounds}
+use native.Mathlib.Omega.{arith}
 use borrow.Author.Needs.{needs}
 use Rattle.accounts.proofs.deposit.Statement.{statement}
 use Rattle.accounts.proofs.deposit.Tie as tie
@@ -32,10 +33,10 @@ enum-told : tie.Need-enum-told
 enum-told c = search needs
 
 row-of-requires : tie.Need-row-of-requires
-row-of-requires c κs = good c .0
+row-of-requires c κs = let g = good c in omega arith
 
 supply-at-requires : tie.Need-supply-at-requires
-supply-at-requires c κs = good (c .before) .1
+supply-at-requires c κs = let g = good (c .before) in omega arith
 
 deposit-requires : tie.Need-deposit-requires
 deposit-requires c κs = let s = c .before .before .before .before .before in
@@ -43,7 +44,7 @@ deposit-requires c κs = let s = c .before .before .before .before .before in
     rw (c .before .row-of .ensures, c .supply-at .ensures) (bank-bounds (s .args .x) (reachable-bounded (s .args .x) (s .pre)) (s .args .member) (s .args .token) (g .0) (g .1))
 
 put-banked-requires : tie.Need-put-banked-requires
-put-banked-requires c κs = good (c .before .before .before)
+put-banked-requires c κs = let g = good (c .before .before .before) in omega arith
 
 returns : tie.Need-returns
 returns c = let a = c .before .before .before .before .before .args in

@@ -10,6 +10,7 @@ use Rattle.model.specs.declared.state.Order.{Order}
 use Rattle.model.specs.declared.state.Ticket.{Ticket}
 use Rattle.model.specs.Parts.{formOf, orderForm, orderOn, ticketAt, putPlaced}
 use Rattle.model.proofs.OnParts.{after-bad, after-good, order-places, order-on}
+use native.Mathlib.Omega.{arith}
 use borrow.Author.Needs.{needs}
 use Rattle.accounts.proofs.order.Statement.{statement}
 use Rattle.accounts.proofs.order.Tie as tie
@@ -37,16 +38,16 @@ side-of-requires : tie.Need-side-of-requires
 side-of-requires c κs = search needs
 
 row-of-requires : tie.Need-row-of-requires
-row-of-requires c κs = good (c .before) .1
+row-of-requires c κs = let g = good (c .before) in omega arith
 
 ticket-at-requires : tie.Need-ticket-at-requires
-ticket-at-requires c κs = good (c .before .before) .0
+ticket-at-requires c κs = let g = good (c .before .before) in omega arith
 
 order-requires : tie.Need-order-requires
-order-requires c κs = good (c .before .before .before) .2
+order-requires c κs = let g = good (c .before .before .before) in omega arith
 
 put-placed-requires : tie.Need-put-placed-requires
-put-placed-requires c κs = let g = good (c .before .before .before .before) in (g .1, g .0)
+put-placed-requires c κs = let g = good (c .before .before .before .before) in omega arith
 
 returns : tie.Need-returns
 returns c = let a = c .before .before .before .before .before .args in

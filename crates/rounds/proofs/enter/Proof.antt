@@ -67,7 +67,8 @@ enter-requires : tie.Need-enter-requires
 enter-requires c κs =
     let s = c .before .before .before .before .before .before in
     let h = bound (c .before .before .before) in
-    (h, enter-asks (s .args .x) (s .pre) (s .args .ticket) h _ _ (c .before .before .ticket-at .ensures) (taken c))
+    let p = place (c .before) in
+    (omega arith, enter-asks (s .args .x) (s .pre) (s .args .ticket) h _ _ (c .before .before .ticket-at .ensures) (taken c))
 
 put-joined-requires : tie.Need-put-joined-requires
 put-joined-requires c κs =
