@@ -21,7 +21,7 @@ use sides::side_of;
 use units::Amount;
 use units::Price;
 
-// A member's row and a token's supply.
+// Puts a member's row and a token's supply back.
 fn put_banked(x: Exchange, member: u32, token: u32, p: Banked) -> Outcome
     requires { ⌜ (member < 16) × (token < 4) ⌝ }
     ensures { λ r. ⌜ r ≡ putBanked x member token p ⌝ }
@@ -39,7 +39,7 @@ fn put_banked(x: Exchange, member: u32, token: u32, p: Banked) -> Outcome
     }
 }
 
-// A member's row and a ticket.
+// Puts a member's row and a ticket back.
 fn put_placed(x: Exchange, member: u32, ticket: u32, p: Placed) -> Outcome
     requires { ⌜ (member < 16) × (ticket < 64) ⌝ }
     ensures { λ r. ⌜ r ≡ putPlaced x member ticket p ⌝ }

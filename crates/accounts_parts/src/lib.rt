@@ -1,5 +1,5 @@
 // Deposit, withdraw, order and cancel on the parts that they touch. Public for the crates above; what they ask of their parts holds of the
-// parts of every reachable state.
+// parts of every reachable state, and what they ask of numbers is what a call's form gives.
 ghost use mathlib.Core.Path.{_≡_};
 ghost use mathlib.Core.Bool.{not};
 ghost use Prim.Native.Nat.{_<_};

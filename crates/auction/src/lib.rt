@@ -19,7 +19,7 @@ use sides::side_of;
 use units::Amount;
 use units::Block;
 
-// A market, the maker's row and the last block.
+// Puts a market, the maker's row and the last block back.
 fn put_traded(x: Exchange, market: u32, member: u32, p: Traded) -> Outcome
     requires { ⌜ (0 < market) × (market < 4) × (member < 16) ⌝ }
     ensures { λ r. ⌜ r ≡ putTraded x market member p ⌝ }

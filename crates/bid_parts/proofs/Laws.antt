@@ -22,11 +22,10 @@ use Rattle.model.specs.declared.state.Market.{Market}
 use Rattle.model.specs.declared.answer.Refusal.the-variants.{WrongPhase, StaleBlock, AuctionOver, NotAvailable, BoundMissed, InsufficientBalance}
 use Rattle.model.specs.Sides.{other, offered, wanted, gives, takes}
 use Rattle.model.specs.State.{isAuction, totalsOf}
-use Rattle.model.specs.Calls.{bidQuote, notAvailable, boundMissed}
+use Rattle.model.specs.Calls.{bidQuote, notAvailable, boundMissed, isOver}
 use Rattle.model.specs.Bounds.{BidBounds, heldIn}
 use Rattle.model.specs.Parts.{untraded, tradedOn, bidOn}
-use Rattle.settle_parts.specs.Steps.{isOver}
-use Rattle.bid_parts.specs.Steps.{TradeFits, tradeOn}
+use Rattle.bid_parts.specs.Steps.{TradeRoom, tradeOn}
 
 -- ---- tests
 
@@ -113,7 +112,7 @@ module _ (r : Round) (row : Row) (last : Block) (number : ℕ) (b : BidBounds r 
   gives-fit : gives s n q ≤ cellOf row (wanted s number) → heldIn r (other s) + gives s n q ≤ largest
   gives-fit h = omega (arith, h, subst (λ (t : ℕ). cellOf row t + heldIn r (other s) ≤ largest) (other-offers s number) (b .beside (other s)))
 
-  pub trade-fits : gives s n q ≤ cellOf row (wanted s number) → TradeFits r s n q
+  pub trade-fits : gives s n q ≤ cellOf row (wanted s number) → TradeRoom r s n q
   trade-fits h =
       record {
         paid = omega (arith, fits-left s n q (totalsOf r s) a, b .round .total s);

@@ -18,7 +18,7 @@ use Rattle.model.specs.Bounds.{heldIn}
 use Rattle.model.specs.Parts.{untraded, tradedOn}
 
 -- n base for q quote on a side: the round can pay what the maker takes, and there is room for what the maker gives
-pub record TradeFits (r : Round) (side : Side) (n q : ℕ) : Type 0 where
+pub record TradeRoom (r : Round) (side : Side) (n q : ℕ) : Type 0 where
   pub paid : totalsOf r side .paid .0 + takes side n q ≤ largest
   pub got : totalsOf r side .got .0 + gives side n q ≤ largest
   pub held : takes side n q ≤ heldIn r side

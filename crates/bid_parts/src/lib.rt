@@ -1,4 +1,5 @@
-// Bid on the parts that it touches. Public for the crates above; what it asks of its parts holds of the parts of every reachable state.
+// Bid on the parts that it touches. Public for the crates above; what it asks of its parts holds of the parts of every reachable state,
+// and what it asks of numbers is what a call's form gives.
 ghost use mathlib.Core.Bool.{false};
 ghost use mathlib.Core.Path.{_≡_};
 ghost use Prim.Native.Nat.{_+_, _-_, _<_, _≤_};
@@ -11,7 +12,7 @@ ghost use Rattle.model.specs.State.{totalsOf};
 ghost use Rattle.model.specs.Calls.{bidQuote, notAvailable, boundMissed, plusTrade, bidRound};
 ghost use Rattle.model.specs.Bounds.{RoundBounds, BidBounds, BidFits};
 ghost use Rattle.model.specs.Parts.{untraded, bidOn};
-ghost use Rattle.bid_parts.specs.Steps.{TradeFits, tradeOn};
+ghost use Rattle.bid_parts.specs.Steps.{TradeRoom, tradeOn};
 use ledger::Row;
 use ledger::cell_of;
 use ledger::credit_row;
@@ -50,8 +51,7 @@ fn quote_at(r: Round, side: Side, block: Block, n: Amount) -> u64
     requires { ⌜ RoundBounds r × (r .start .0 ≤ block .0) × (block .0 ≤ r .start .0 + r .length) ⌝ }
     ensures { λ q. ⌜ q ≡ bidQuote r side (block .0) (n .0) ⌝ }
 {
-    let start = r.start;
-    let k = block.0 - start.0;
+    let k = block.0 - r.start.0;
     quote_for(side, n, auction_price(side, r.hi, r.lo, k, r.length))
 }
 
@@ -125,7 +125,7 @@ fn plus_trade(t: Totals, paid: Amount, got: Amount) -> Totals
 
 // The buys pay q quote and get n base.
 fn buys_traded(r: Round, n: Amount, q: Amount) -> Round
-    requires { ⌜ TradeFits r Buy (n .0) (q .0) ⌝ }
+    requires { ⌜ TradeRoom r Buy (n .0) (q .0) ⌝ }
     ensures { λ s. ⌜ s ≡ bidRound r Buy (n .0) (q .0) ⌝ }
 {
     let buys = plus_trade(r.buys, q, n);
@@ -140,7 +140,7 @@ fn buys_traded(r: Round, n: Amount, q: Amount) -> Round
 
 // The sells pay n base and get q quote.
 fn sells_traded(r: Round, n: Amount, q: Amount) -> Round
-    requires { ⌜ TradeFits r Sell (n .0) (q .0) ⌝ }
+    requires { ⌜ TradeRoom r Sell (n .0) (q .0) ⌝ }
     ensures { λ s. ⌜ s ≡ bidRound r Sell (n .0) (q .0) ⌝ }
 {
     let sells = plus_trade(r.sells, n, q);
@@ -155,7 +155,7 @@ fn sells_traded(r: Round, n: Amount, q: Amount) -> Round
 
 // The round after n base for q quote on a side.
 fn traded_round(r: Round, side: Side, n: Amount, q: Amount) -> Round
-    requires { ⌜ TradeFits r side (n .0) (q .0) ⌝ }
+    requires { ⌜ TradeRoom r side (n .0) (q .0) ⌝ }
     ensures { λ s. ⌜ s ≡ bidRound r side (n .0) (q .0) ⌝ }
 {
     match side {
@@ -172,8 +172,7 @@ fn traded_row(row: Row, number: u32, side: Side, give: Amount, take: Amount) -> 
     let paid = debit_row(row, wanted_token(side, number), give);
     let rest = paid.row;
     let got = credit_row(rest, offered_token(side, number), take);
-    let next = got.row;
-    next
+    got.row
 }
 
 // The trade at a block, unless the maker's balance is below what the maker gives.

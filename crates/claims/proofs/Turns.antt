@@ -13,6 +13,7 @@ use Rattle.model.specs.declared.state.Market.{Market}
 use Rattle.model.specs.declared.call.Call.{Call}
 use Rattle.model.specs.declared.call.Call.the-variants as Call
 use Rattle.model.specs.declared.answer.Answer.{Answer}
+use Rattle.model.specs.declared.answer.Outcome.{Outcome}
 use Rattle.model.specs.declared.answer.Answer.the-variants.{Accepted, Refused}
 use Rattle.model.specs.declared.answer.Refusal.{Refusal}
 use Rattle.model.specs.State.{closedMarket, phase, roundIn}
@@ -98,19 +99,23 @@ module _ (market : ℕ) (first : Exchange) (begun : ℕ) (x : Exchange) (n : ℕ
 
 -- ---- what closing a market answers
 
-pub close-refused : (x : Exchange) (market at : ℕ) (a : Answer) (w : Refusal) → a ≡ settleOf x market at .answer → a ≡ Refused w
-    → Brought x market at (record { answer = a; calls = 0; exchange = x })
-unfolding closeOf
-close-refused x market at a w ea ew =
+pub close-refused : (x : Exchange) (market at : ℕ) (o : Outcome) (w : Refusal) → o ≡ settleOf x market at → o .answer ≡ Refused w
+    → Brought x market at (record { answer = o .answer; calls = 1; exchange = o .exchange })
+unfolding closeOf afterCalls stepOf
+close-refused x market at o w eo ew =
+    let e : settleOf x market at .answer ≡ Refused w = sym (ap (λ (p : Outcome). p .answer) eo) ∙ ew in
     record {
-      is = ap (λ (b : Answer). record { answer = b; calls = 0; exchange = x }) ew ∙ ap (closedBy x market at) (sym ew ∙ ea);
+      is =
+          ap (λ (p : Outcome). record { answer = p .answer; calls = 1; exchange = p .exchange }) eo
+          ∙ ap (λ (b : Answer). record { answer = b; calls = 1; exchange = settleOf x market at .exchange }) e
+          ∙ ap (closedBy x market at) (sym e);
       at-most = omega arith;
-      accepted = λ z. absurd (no-code ew z);
-      closed = λ z. absurd (no-code ew z);
+      accepted = λ z. absurd (no-code z);
+      closed = λ z. absurd (no-code z);
     }
   where
-    no-code : a ≡ Refused w → codeOf a ≡ 0 → ⊥
-    no-code ew z = omega (arith, refusal-code w, sym (ap codeOf ew) ∙ z)
+    no-code : codeOf (o .answer) ≡ 0 → ⊥
+    no-code z = omega (arith, refusal-code w, sym (ap codeOf ew) ∙ z)
 
 module _ (x : Exchange) (l : Reachable x) (market at p q : ℕ) (e : settleOf x market at .answer ≡ Accepted p q) where
   pub turn-settled : Winding (settleOf x market at .exchange) market (marks (settleOf x market at .exchange) market)

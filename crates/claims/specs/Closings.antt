@@ -1,11 +1,14 @@
 -- A market brought back to closed, and the next ticket that its round marks.
 use Prim.Native.Nat.{ℕ, _≤_}
 use mathlib.Core.Path.{_≡_}
+use mathlib.Core.List.{List, [], _∷_}
 use lib.ListN.{length}
 use Rattle.ticket_set.specs.declared.Next.{Next}
 use Rattle.ticket_set.specs.TicketSet.{nextOf}
 use Rattle.model.specs.declared.state.Exchange.{Exchange}
 use Rattle.model.specs.declared.state.Phase.the-variants.{Closed}
+use Rattle.model.specs.declared.call.Call.{Call}
+use Rattle.model.specs.declared.call.Call.the-variants as Call
 use Rattle.model.specs.declared.answer.Answer.{Answer}
 use Rattle.model.specs.declared.answer.Answer.the-variants.{Accepted, Refused}
 use Rattle.model.specs.State.{phase, roundIn}
@@ -18,17 +21,21 @@ use Rattle.claims.specs.declared.closing.Closing.{Closing}
 unfoldable pub nextMarked : Exchange → ℕ → Next
 nextMarked x market = nextOf (roundIn (phase x market) .tickets)
 
--- where the settle is accepted, it and a claim of each marked ticket, lowest first: how many calls, and the state after them.
--- Where it is refused, no call is accepted, and the state is as it was.
-abbrev pub closedBy : Exchange → ℕ → ℕ → Answer → Closing
-closedBy x market at (Accepted a b) =
-    record {
-      answer = Accepted a b;
-      calls = length (closingCalls x market at);
-      exchange = afterCalls x (closingCalls x market at);
-    }
-closedBy x market at (Refused why) = record { answer = Refused why; calls = 0; exchange = x }
+-- the calls that are made: the settle, and where it is accepted a claim of each marked ticket, lowest first
+abbrev pub callsMade : Exchange → ℕ → ℕ → Answer → List Call
+callsMade x market at (Accepted a b) = closingCalls x market at
+callsMade x market at (Refused why) = Call.Settle market at ∷ []
 
+-- the settle's answer, how many calls were made, and the state after them
+abbrev pub closedBy : Exchange → ℕ → ℕ → Answer → Closing
+closedBy x market at a =
+    record {
+      answer = a;
+      calls = length (callsMade x market at a);
+      exchange = afterCalls x (callsMade x market at a);
+    }
+
+-- a market brought back to closed
 unfoldable pub closeOf : Exchange → ℕ → ℕ → Closing
 closeOf x market at = closedBy x market at (settleOf x market at .answer)
 

@@ -13,7 +13,7 @@ use places::market_at;
 use ticket_set::Next;
 use ticket_set::next_ticket;
 
-// What bringing a market back to closed answers: the settle's answer, how many calls were accepted, and the state after them.
+// What bringing a market back to closed answers: the settle's answer, how many calls were made, and the state after them.
 pub struct Closing {
     pub answer: Answer,
     pub calls: u32,
@@ -47,7 +47,7 @@ pub fn next_marked(x: Exchange, market: u32) -> Next
     next_ticket(marked(market_at(x, market)))
 }
 
-// Settles a market and claims every ticket that its round marks, lowest first.
+// Settles a market and, where that is accepted, claims every ticket that its round marks, lowest first.
 pub fn close_market(x: Exchange, market: u32, block: u32) -> Closing
     requires { ⌜ Reachable x ⌝ }
     ensures { λ r. ⌜ Brought x market block r ⌝ }
@@ -60,8 +60,8 @@ pub fn close_market(x: Exchange, market: u32, block: u32) -> Closing
         Answer::Refused(_) => {
             return Closing {
                 answer,
-                calls: 0,
-                exchange: x,
+                calls,
+                exchange: state,
             };
         }
         Answer::Accepted(_, _) => {

@@ -21,7 +21,7 @@ use places::ticket_at;
 use sides::ticket_market;
 use sides::ticket_member;
 
-// A ticket, its market, its member's row, and the residue of the market's two tokens.
+// Puts a ticket, its market, its member's row and the residue of the market's two tokens back.
 fn put_claimed(x: Exchange, ticket: u32, market: u32, member: u32, p: Claimed) -> Outcome
     requires { ⌜ (ticket < 64) × (0 < market) × (market < 4) × (member < 16) ⌝ }
     ensures { λ r. ⌜ r ≡ putClaimed x ticket market member p ⌝ }

@@ -1,10 +1,11 @@
-// Claim on the parts that it touches. Public for the crates above; what it asks of its parts holds of the parts of every reachable state.
+// Claim on the parts that it touches. Public for the crates above; what it asks of its parts holds of the parts of every reachable state,
+// and what it asks of numbers is what a call's form gives.
 ghost use mathlib.Core.Path.{_≡_};
 ghost use Prim.Native.Nat.{_<_, _≤_, _+_, _-_};
 ghost use Rattle.units.specs.Counts.{amount, largest};
 ghost use Rattle.ledger.specs.Balances.{cellOf};
 ghost use Rattle.model.specs.Sides.{bySide, wanted};
-ghost use Rattle.model.specs.State.{restingOr, totalsOf, closedMarket};
+ghost use Rattle.model.specs.State.{restingOr, closedMarket};
 ghost use Rattle.model.specs.Calls.{claimedRound};
 ghost use Rattle.model.specs.Bounds.{PayBounds, ClaimFits, shareIn, gotIn};
 ghost use Rattle.model.specs.Parts.{unclaimed, paidOn, claimOn};
@@ -198,7 +199,7 @@ fn pay(row: Row, quote: Amount, base: Amount, ticket: u32, o: Order, r: Round) -
     paid(row, quote, base, o, s, got, next)
 }
 
-// Claim: a ticket in a round that pays is paid its share.
+// 10 Claim: a ticket in a round that pays is paid its share.
 pub fn claim(
     t: Ticket,
     market: Market,

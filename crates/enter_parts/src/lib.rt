@@ -1,4 +1,5 @@
-// Enter on the parts that it touches. Public for the crates above; what it asks of its parts holds of the parts of every reachable state.
+// Enter on the parts that it touches. Public for the crates above; what it asks of its parts holds of the parts of every reachable state,
+// and what it asks of numbers is what a call's form gives.
 ghost use mathlib.Core.Path.{_≡_};
 ghost use Prim.Native.Nat.{_<_, _≤_, _+_};
 ghost use Rattle.units.specs.Counts.{largest};
@@ -29,11 +30,9 @@ use units::Price;
 fn off_limit(side: Side, limit: Price, r: Round) -> bool
     ensures { λ b. ⌜ b ≡ offLimit side (limit .0) (r .hi .0) (r .lo .0) ⌝ }
 {
-    let hi = r.hi;
-    let lo = r.lo;
     match side {
-        Side::Buy => limit.0 < hi.0,
-        Side::Sell => lo.0 < limit.0,
+        Side::Buy => limit.0 < r.hi.0,
+        Side::Sell => r.lo.0 < limit.0,
     }
 }
 

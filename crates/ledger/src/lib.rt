@@ -99,9 +99,9 @@ pub fn with_row(l: Ledger, member: u32, row: Row) -> Ledger
     requires { ⌜ member < 16 ⌝ }
     ensures { λ r. ⌜ r ≡ withRow l member row ⌝ }
 {
-    let m = member as usize;
+    let at = member as usize;
     let mut next = l;
-    next.rows[m] = row;
+    next.rows[at] = row;
     next
 }
 
@@ -110,8 +110,8 @@ pub fn cell_of(row: Row, token: u32) -> Amount
     requires { ⌜ token < 4 ⌝ }
     ensures { λ r. ⌜ r ≡ amount (cellOf row token) ⌝ }
 {
-    let t = token as usize;
-    row.cells[t]
+    let c = token as usize;
+    row.cells[c]
 }
 
 // Adds to a token of a row.
@@ -128,7 +128,7 @@ pub fn credit_row(row: Row, token: u32, n: Amount) -> RowPosting
     let mut next = row;
     let cell = next.cells[t];
     let sum = (cell.0 as u64) + (n.0 as u64);
-    if 4294967295 < sum {
+    if 4_294_967_295 < sum {
         return RowPosting {
             entry: Entry::Failed(Fault::TooLarge),
             row,

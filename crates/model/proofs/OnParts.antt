@@ -1,11 +1,11 @@
 -- Each call is its form, then its work on the parts that it touches, with the parts put back.
 use Prim.Native.Nat.{ℕ, zero, suc, _+_, _-_, _≤_, _<_}
 use mathlib.Core.Path.{_≡_, refl, sym, ap, ap₂, _∙_}
-use mathlib.Core.Bool.{Bool, true, false, cond, _||_, _&&_, not}
+use mathlib.Core.Bool.{Bool, true, false, cond, _||_, not}
 use mathlib.Core.List.{List, [], _∷_, _++_}
 use native.Mathlib.Omega.{arith}
 use lib.Dec.{eqb}
-use lib.ListN.{getD, set, length}
+use lib.ListN.{getD, set}
 use lib.Seq.{set-getD, getD-set-other}
 use borrow.Author.Tests.{eqb-true, ltb-false, not-false}
 use Rattle.units.specs.declared.Amount.{Amount}
@@ -36,7 +36,7 @@ use Rattle.model.specs.declared.parts.Form.{Form}
 use Rattle.model.specs.declared.parts.Form.the-variants.{Good, Bad}
 use Rattle.model.specs.Sides.{sideOf, offered, wanted, gives, takes}
 use Rattle.model.specs.State.{supply, lastBlock, ticket, freeTicket, orderIn, isFree, isEntered, restingOr, phase, closedMarket, roundIn, isClosed, isCollect, isAuction, isPaying, totalsOf, marketAt, setMarket, withTicket, withPhase, credit, toResidue}
-use Rattle.model.specs.Calls.{accept, refuse, above, below, outside, unfilled, notAvailable, boundMissed, bidQuote, bidRound, depositOf, depositDone, withdrawOf, orderOf, orderDone, cancelOf, cancelDone, openOf, openDone, enterOf, enterWith, enterDone, matchOf, matchDone, bidOf, bidDone, settleOf, settleDone, claimedRound, payingOrClosed, claimOf, claimWith, claimDone}
+use Rattle.model.specs.Calls.{accept, refuse, above, below, outside, isOver, isEarly, notAvailable, boundMissed, bidQuote, bidRound, depositOf, depositDone, withdrawOf, orderOf, orderDone, cancelOf, cancelDone, openOf, openDone, enterOf, enterWith, enterDone, matchOf, matchDone, bidOf, bidDone, settleOf, settleDone, claimedRound, payingOrClosed, claimOf, claimWith, claimDone}
 use Rattle.model.specs.Bounds.{Bounded, TicketBounds, shareIn, gotIn}
 use Rattle.model.specs.Parts.{bankForm, orderForm, cancelForm, openForm, ticketForm, marketForm, bidForm, formOf, byForm, ticketMarket, ticketMember, supplyAt, residueAt, ticketAt, unbanked, depositedOn, depositOn, withdrawnOn, withdrawOn, putBanked, unplaced, orderFrom, orderedOn, orderOn, cancelledOn, cancelOn, putPlaced, unmoved, openedOn, openOn, matchedOn, matchOn, settledOn, settleOn, putMoved, unjoined, enteredOn, enterOn, putJoined, untraded, tradedOn, bidOn, putTraded, unclaimed, paidOn, claimOn, putClaimed}
 use Rattle.model.proofs.Frames.{inside}
@@ -214,7 +214,7 @@ module _ (x : Exchange) (n at : ℕ) where
       let us : List (Test Refusal) =
       when (not (isAuction (phase x n))) WrongPhase
       ∷ when (below at (lastBlock x)) StaleBlock
-      ∷ when ((unfilled (r .buys) || unfilled (r .sells)) && not (above at (r .start .0 + r .length))) TooEarly
+      ∷ when (isEarly r at) TooEarly
       ∷ [] in
       on-form x (marketForm n) us (settleDone x n at) _ (λ f.
       sym (decide-carried (putMoved x n) (unmoved (marketAt (x .markets) n) (x .last)) (settledOn r at) (refuse x) (settleDone x n at) us move-back (λ p. refl)))
@@ -278,7 +278,7 @@ module _ (x : Exchange) (n m at : ℕ) (z : Shaped (x .ledger)) where
       let us : List (Test Refusal) =
       when (not (isAuction (phase x n))) WrongPhase
       ∷ when (below at (lastBlock x)) StaleBlock
-      ∷ when (above at (r .start .0 + r .length)) AuctionOver
+      ∷ when (isOver r at) AuctionOver
       ∷ when (notAvailable s base q (totalsOf r s)) NotAvailable
       ∷ when (boundMissed s q bound) BoundMissed
       ∷ when (below (cellOf row (wanted s n)) (gives s base q)) InsufficientBalance

@@ -10,7 +10,7 @@ use lib.ListN.{List·getD-eq-default, length, length-map}
 use borrow.Author.Tests.{eq-eqb, le-ltb, lt-ltb, ne-eqb, not-false}
 use mathlib.Core.Logic.{_⊎_, inl, inr}
 use Rattle.model.specs.Answers.{codeOf}
-use Rattle.model.specs.Calls.{above, claimWith, claimedRound, payingOrClosed, refuse, settleDone, settleOf, settleTests, settleWith, settledPhase, unfilled}
+use Rattle.model.specs.Calls.{above, claimWith, claimedRound, payingOrClosed, refuse, settleDone, settleOf, settleTests, settleWith, settledPhase, unfilled, isEarly}
 use Rattle.model.specs.Closing.{AllAccepted, BackToClosed, CanClose, Names, SettleCloses, WindsUp, afterCalls, next-call, no-call, times}
 use Rattle.model.specs.History.{History, auctioning, logOf, running}
 use Rattle.model.specs.Run.{Reachable, after-call, stepOf}
@@ -123,7 +123,7 @@ settle-tests x mk at r pos lt4 ep over late = (
     (
       le-ltb at (lastBlock x) late,
       (
-        ap (λ p. (unfilled (roundIn p .buys) || unfilled (roundIn p .sells)) && not (above at (roundIn p .start .0 + roundIn p .length))) ep
+        ap (λ p. isEarly (roundIn p) at) ep
             ∙ ap (λ (q : Bool). (unfilled (r .buys) || unfilled (r .sells)) && not q) (lt-ltb (r .start .0 + r .length) at over)
             ∙ and-none (unfilled (r .buys) || unfilled (r .sells)),
         tt,

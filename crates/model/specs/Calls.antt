@@ -260,6 +260,10 @@ abbrev pub boundMissed : Side → ℕ → ℕ → Bool
 boundMissed Buy q bound = below q bound
 boundMissed Sell q bound = above q bound
 
+-- "k > L"
+abbrev pub isOver : Round → ℕ → Bool
+isOver r at = above at (r .start .0 + r .length)
+
 abbrev pub bidTests : Exchange → ℕ → ℕ → ℕ → ℕ → ℕ → ℕ → List (Test Refusal)
 bidTests x market member at side n bound =
     let p = phase x market in
@@ -272,7 +276,7 @@ bidTests x market member at side n bound =
     ∷ when (eqb n 0) BadAmountOrLimit
     ∷ when (not (isAuction p)) WrongPhase
     ∷ when (below at (lastBlock x)) StaleBlock
-    ∷ when (above at (r .start .0 + r .length)) AuctionOver
+    ∷ when (isOver r at) AuctionOver
     ∷ when (notAvailable s n q (totalsOf r s)) NotAvailable
     ∷ when (boundMissed s q bound) BoundMissed
     ∷ when (below (balance x member (wanted s market)) (gives s n q)) InsufficientBalance
@@ -317,6 +321,9 @@ abbrev pub unfilled : Totals → Bool
 unfilled t = below (t .paid .0) (t .total .0)
 
 -- 13: "something left and k ≤ L"
+abbrev pub isEarly : Round → ℕ → Bool
+isEarly r at = (unfilled (r .buys) || unfilled (r .sells)) && not (isOver r at)
+
 abbrev pub settleTests : Exchange → ℕ → ℕ → List (Test Refusal)
 settleTests x market at =
     let p = phase x market in
@@ -324,7 +331,7 @@ settleTests x market at =
     when (outside market 1 3) NoSuchMarket
     ∷ when (not (isAuction p)) WrongPhase
     ∷ when (below at (lastBlock x)) StaleBlock
-    ∷ when ((unfilled (r .buys) || unfilled (r .sells)) && not (above at (r .start .0 + r .length))) TooEarly
+    ∷ when (isEarly r at) TooEarly
     ∷ []
 
 -- "Phase paying; closed at once if no bit is set"

@@ -14,6 +14,7 @@ use Rattle.model.specs.Answers.{refusalCode, codeOf, answerLine}
 use Rattle.model.specs.Calls.{refuse, depositTests, depositDone, withdrawTests, withdrawDone, orderTests, orderDone, cancelTests, cancelDone, openTests, openDone, enterTests, enterDone, matchTests, matchDone, bidTests, bidDone, settleTests, settleDone, claimTests, claimDone}
 use Rattle.model.specs.Run.{stepOf, Request, requestOf}
 
+-- the tests of any call, and what it does where none applies
 abbrev pub testsOf : Exchange → Call → List (Test Refusal)
 testsOf x (Call.Deposit member token n) = depositTests x member token n
 testsOf x (Call.Withdraw member token n) = withdrawTests x member token n

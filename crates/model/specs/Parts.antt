@@ -1,7 +1,7 @@
 -- The ten calls on the parts of the state that they touch: what a call's numbers alone decide, its work on its parts, and the state with the parts
 -- put back. The laws in proofs/OnParts.antt say that this is the call itself; a reader who believes Calls.antt need not believe this page.
 use Prim.Native.Nat.{ℕ, _+_, _-_}
-use mathlib.Core.Bool.{cond, _||_, _&&_, not}
+use mathlib.Core.Bool.{cond, _||_, not}
 use mathlib.Core.List.{List, [], _∷_}
 use lib.Dec.{eqb}
 use lib.ListN.{getD, set}
@@ -38,7 +38,7 @@ use Rattle.model.specs.declared.parts.Traded.{Traded}
 use Rattle.model.specs.declared.parts.Claimed.{Claimed}
 use Rattle.model.specs.Sides.{sideOf, offered, wanted, gives, takes}
 use Rattle.model.specs.State.{orderIn, isFree, isEntered, restingOr, freeTicket, roundIn, isClosed, isCollect, isAuction, isPaying, totalsOf, setMarket}
-use Rattle.model.specs.Calls.{above, below, outside, openedRound, enteredRound, tradeOf, matchedRound, bidQuote, notAvailable, boundMissed, bidRound, unfilled, settledPhase, claimedRound}
+use Rattle.model.specs.Calls.{above, below, outside, openedRound, enteredRound, tradeOf, matchedRound, bidQuote, notAvailable, boundMissed, isOver, bidRound, isEarly, settledPhase, claimedRound}
 use Rattle.model.specs.Bounds.{shareIn, gotIn}
 
 -- ---- what a call's numbers alone decide
@@ -274,7 +274,7 @@ settleOn market last at =
     decide
     (when (not (isAuction (market .phase))) WrongPhase
     ∷ when (below at (last .0)) StaleBlock
-    ∷ when ((unfilled (r .buys) || unfilled (r .sells)) && not (above at (r .start .0 + r .length))) TooEarly
+    ∷ when (isEarly r at) TooEarly
     ∷ [])
     (unmoved market last)
     (settledOn r at)
@@ -357,7 +357,7 @@ bidOn market row last number at s n bound =
     decide
     (when (not (isAuction (market .phase))) WrongPhase
     ∷ when (below at (last .0)) StaleBlock
-    ∷ when (above at (r .start .0 + r .length)) AuctionOver
+    ∷ when (isOver r at) AuctionOver
     ∷ when (notAvailable s n q (totalsOf r s)) NotAvailable
     ∷ when (boundMissed s q bound) BoundMissed
     ∷ when (below (cellOf row (wanted s number)) (gives s n q)) InsufficientBalance

@@ -8,6 +8,7 @@ abbrev pub sideOf : ℕ → Side
 sideOf zero = Buy
 sideOf (suc n) = Sell
 
+-- the other side
 abbrev pub other : Side → Side
 other Buy = Sell
 other Sell = Buy

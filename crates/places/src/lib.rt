@@ -59,7 +59,7 @@ pub fn refused(x: Exchange, why: Refusal) -> Outcome
     }
 }
 
-// A market and the last block.
+// Puts a market and the last block back.
 pub fn put_moved(x: Exchange, market: u32, p: Moved) -> Outcome
     requires { ⌜ (0 < market) × (market < 4) ⌝ }
     ensures { λ r. ⌜ r ≡ putMoved x market p ⌝ }

@@ -59,6 +59,7 @@ pub fn low_bound(reference: Price, slack: u32) -> Price
     Price(part_up(reference.0, 1_000_000 - slack, 1_000_000) as u32)
 }
 
+// The smaller of two.
 fn smaller(a: u64, b: u64) -> u64
     ensures { λ r. ⌜ r ≡ min a b ⌝ }
 {

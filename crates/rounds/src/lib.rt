@@ -18,7 +18,7 @@ use sides::ticket_market;
 use units::Block;
 use units::Price;
 
-// A ticket and its market.
+// Puts a ticket and its market back.
 fn put_joined(x: Exchange, ticket: u32, market: u32, p: Joined) -> Outcome
     requires { ⌜ (ticket < 64) × (0 < market) × (market < 4) ⌝ }
     ensures { λ r. ⌜ r ≡ putJoined x ticket market p ⌝ }

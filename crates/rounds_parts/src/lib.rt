@@ -1,5 +1,5 @@
 // Open and match on the parts that they touch. Public for the crates above; what they ask of their parts holds of the parts of every
-// reachable state.
+// reachable state, and what they ask of numbers is what a call's form gives.
 ghost use mathlib.Core.Path.{_≡_};
 ghost use Prim.Native.Nat.{_<_, _≤_};
 ghost use Rattle.model.specs.State.{isClosed};

@@ -9,8 +9,8 @@ use Rattle.model.specs.declared.state.Phase.the-variants.{Auction}
 use Rattle.model.specs.declared.state.Market.{Market}
 use Rattle.model.specs.declared.answer.Refusal.the-variants.{WrongPhase, StaleBlock, TooEarly}
 use Rattle.model.specs.State.{isAuction}
+use Rattle.model.specs.Calls.{isEarly}
 use Rattle.model.specs.Parts.{unmoved, settledOn, settleOn}
-use Rattle.settle_parts.specs.Steps.{isEarly}
 
 module _ (market : Market) (last : Block) (at : ℕ) where
   pub settle-elsewhere : isAuction (market .phase) ≡ false → settleOn market last at ≡ unmoved market last WrongPhase

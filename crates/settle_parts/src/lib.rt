@@ -1,9 +1,8 @@
 // Settle on the parts that it touches. Public for the crates above.
 ghost use mathlib.Core.Path.{_≡_};
 ghost use Rattle.model.specs.declared.state.Phase.the-variants.{Auction};
-ghost use Rattle.model.specs.Calls.{unfilled, settledPhase};
+ghost use Rattle.model.specs.Calls.{isOver, isEarly, unfilled, settledPhase};
 ghost use Rattle.model.specs.Parts.{settleOn};
-ghost use Rattle.settle_parts.specs.Steps.{isOver, isEarly};
 use model::answer::Answer;
 use model::answer::Refusal;
 use model::parts::Moved;
@@ -19,8 +18,7 @@ use units::Block;
 pub fn auction_over(r: Round, block: Block) -> bool
     ensures { λ b. ⌜ b ≡ isOver r (block .0) ⌝ }
 {
-    let start = r.start;
-    let end = (start.0 as u64) + (r.length as u64);
+    let end = (r.start.0 as u64) + (r.length as u64);
     end < (block.0 as u64)
 }
 

@@ -5,8 +5,7 @@ use native.Mathlib.Omega.{arith}
 use borrow.Author.Needs.{needs}
 use borrow.Author.Tests.{ltb-false}
 use Rattle.model.specs.State.{totalsOf}
-use Rattle.model.specs.Calls.{bidQuote, notAvailable, boundMissed}
-use Rattle.settle_parts.specs.Steps.{isOver}
+use Rattle.model.specs.Calls.{bidQuote, notAvailable, boundMissed, isOver}
 use Rattle.bid_parts.proofs.Laws.{bid-stale, bid-over, bid-unavailable, bid-missed, bid-trades, quote-small}
 use Rattle.bid_parts.proofs.bid_auction.Statement.{statement}
 use Rattle.bid_parts.proofs.bid_auction.Tie as tie

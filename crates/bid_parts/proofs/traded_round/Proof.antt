@@ -2,7 +2,7 @@
 use mathlib.Core.Path.{subst}
 use borrow.Author.Needs.{needs}
 use Rattle.pricing.specs.declared.Side.{Side}
-use Rattle.bid_parts.specs.Steps.{TradeFits}
+use Rattle.bid_parts.specs.Steps.{TradeRoom}
 use Rattle.bid_parts.proofs.traded_round.Statement.{statement}
 use Rattle.bid_parts.proofs.traded_round.Tie as tie
 
@@ -12,7 +12,7 @@ enum-told c = search needs
 buys-traded-requires : tie.Need-buys-traded-requires
 buys-traded-requires c κs =
     let s = c .before .before .args in
-    subst (λ (x : Side). TradeFits (s .r) x (s .n .0) (s .q .0)) (c .enum-told .given .1) (c .before .before .pre)
+    subst (λ (x : Side). TradeRoom (s .r) x (s .n .0) (s .q .0)) (c .enum-told .given .1) (c .before .before .pre)
 
 enum-told-2 : tie.Need-enum-told-2
 enum-told-2 c = search needs
@@ -20,7 +20,7 @@ enum-told-2 c = search needs
 sells-traded-requires : tie.Need-sells-traded-requires
 sells-traded-requires c κs =
     let s = c .before .before .args in
-    subst (λ (x : Side). TradeFits (s .r) x (s .n .0) (s .q .0)) (c .enum-told2 .given .1) (c .before .before .pre)
+    subst (λ (x : Side). TradeRoom (s .r) x (s .n .0) (s .q .0)) (c .enum-told2 .given .1) (c .before .before .pre)
 
 returns : tie.Need-returns
 returns c = rw (c .before .enum-told .given .1) (c .buys-traded .ensures)

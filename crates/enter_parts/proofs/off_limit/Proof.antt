@@ -14,12 +14,12 @@ enum-told-2 c = search needs
 
 returns : tie.Need-returns
 returns c =
-    let a = c .before .before .before .before .before .before .args in
+    let a = c .before .before .before .before .args in
     sym (ap (λ (s : Side). offLimit s (a .limit .0) (a .r .hi .0) (a .r .lo .0)) (c .before .before .enum-told .given .1))
 
 returns-2 : tie.Need-returns-2
 returns-2 c =
-    let a = c .before .before .before .before .before .before .args in
+    let a = c .before .before .before .before .args in
     sym (ap (λ (s : Side). offLimit s (a .limit .0) (a .r .hi .0) (a .r .lo .0)) (c .before .before .enum-told2 .given .1))
 
 pub off-limit-spec : {M : Type 1} → statement M

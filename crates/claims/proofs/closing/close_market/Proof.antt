@@ -27,7 +27,7 @@ enum-told c = search needs
 returns : tie.Need-returns Inv-loop μ-loop
 returns c =
     let a = c .before .before .before .before .args in
-    close-refused (a .x) (a .market) (a .block) _ _ (ap (λ (o : Outcome). o .answer) (c .before .before .before .settle .ensures)) (c .enum-told .given .1)
+    close-refused (a .x) (a .market) (a .block) _ _ (c .before .before .before .settle .ensures) (c .enum-told .given .1)
 
 enum-told-2 : tie.Need-enum-told-2 Inv-loop μ-loop
 enum-told-2 c = search needs

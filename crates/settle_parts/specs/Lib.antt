@@ -1,2 +1,0 @@
--- Definitions that the contracts of this crate cite.
-pub mod Steps
