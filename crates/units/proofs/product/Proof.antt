@@ -1,11 +1,12 @@
 -- `units::product` meets its contract.
+use native.Mathlib.Omega.{arith}
 use borrow.Author.Needs.{needs}
 use Rattle.units.proofs.Rounding.{product-fits}
 use Rattle.units.proofs.product.Statement.{statement}
 use Rattle.units.proofs.product.Tie as tie
 
 mul-result : tie.Need-mul-result
-mul-result c = record { fits = product-fits (c .fits .a .fits) (c .fits .b .fits) }
+mul-result c = record { fits = product-fits (omega (arith, c .fits .a .fits)) (omega (arith, c .fits .b .fits)) }
 
 returns : tie.Need-returns
 returns c = search needs
