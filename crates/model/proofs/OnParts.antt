@@ -264,7 +264,12 @@ module _ (x : Exchange) (n m at : ℕ) (z : Shaped (x .ledger)) where
   -- two changes of one row
   row-twice : m < 16 → (t u a b : ℕ) → credited (debited (x .ledger) m t a) m u b ≡ withRow (x .ledger) m (creditedRow (debitedRow (rowOf (x .ledger) m) t a) u b)
   row-twice h t u a b =
-      rw (debited-row (x .ledger) m t a, credited-row (withRow (x .ledger) m (debitedRow (rowOf (x .ledger) m) t a)) m u b, row-same (x .ledger) m (debitedRow (rowOf (x .ledger) m) t a) z h, row-again (x .ledger) m (debitedRow (rowOf (x .ledger) m) t a) (creditedRow (debitedRow (rowOf (x .ledger) m) t a) u b))
+      rw (
+        debited-row (x .ledger) m t a,
+        credited-row (withRow (x .ledger) m (debitedRow (rowOf (x .ledger) m) t a)) m u b,
+        row-same (x .ledger) m (debitedRow (rowOf (x .ledger) m) t a) z h,
+        row-again (x .ledger) m (debitedRow (rowOf (x .ledger) m) t a) (creditedRow (debitedRow (rowOf (x .ledger) m) t a) u b),
+      )
 
   pub bid-on : (side base bound : ℕ)
       → bidOf x n m at side base bound

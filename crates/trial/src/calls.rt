@@ -4,13 +4,13 @@ ghost use mathlib.Core.Path.{_≡_};
 use model::call::Call;
 
 // The seed before the first draw.
-pub const FIRST_SEED: u32 = 20261115;
+pub(crate) const FIRST_SEED: u32 = 20261115;
 
 // How many calls the day has.
 const DAY: u32 = 14;
 
 // How many calls there are in all.
-pub const CALLS: u32 = 6014;
+pub(crate) const CALLS: u32 = 6014;
 
 // What a drawn call takes its fields from.
 struct Fields {
@@ -37,13 +37,13 @@ struct Drawn {
 }
 
 // A call, and the seed after it.
-pub struct Turn {
-    pub seed: u32,
-    pub call: Call,
+pub(crate) struct Turn {
+    pub(crate) seed: u32,
+    pub(crate) call: Call,
 }
 
 // Call n of all, from 1; seed is the one that the call before it left.
-pub fn nth(n: u32, seed: u32) -> Turn {
+pub(crate) fn nth(n: u32, seed: u32) -> Turn {
     if n <= DAY {
         return Turn {
             seed: seed,

@@ -41,7 +41,11 @@ ticket-at-requires c κs = let g = good (c .before) in omega arith
 cancel-requires : tie.Need-cancel-requires
 cancel-requires c κs = let s = c .before .before .before .before .before in
     let g = good (c .before .before) in
-    rw (c .before .row-of .ensures, c .ticket-at .ensures) (cancel-bounds (s .args .x) (reachable-bounded (s .args .x) (s .pre)) (s .args .member) (s .args .ticket) (g .1) (g .0))
+    rw (
+      c .before .row-of .ensures,
+      c .ticket-at .ensures,
+    )
+    (cancel-bounds (s .args .x) (reachable-bounded (s .args .x) (s .pre)) (s .args .member) (s .args .ticket) (g .1) (g .0))
 
 put-placed-requires : tie.Need-put-placed-requires
 put-placed-requires c κs = let g = good (c .before .before .before) in omega arith

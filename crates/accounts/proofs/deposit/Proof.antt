@@ -41,7 +41,11 @@ supply-at-requires c κs = let g = good (c .before) in omega arith
 deposit-requires : tie.Need-deposit-requires
 deposit-requires c κs = let s = c .before .before .before .before .before in
     let g = good (c .before .before) in
-    rw (c .before .row-of .ensures, c .supply-at .ensures) (bank-bounds (s .args .x) (reachable-bounded (s .args .x) (s .pre)) (s .args .member) (s .args .token) (g .0) (g .1))
+    rw (
+      c .before .row-of .ensures,
+      c .supply-at .ensures,
+    )
+    (bank-bounds (s .args .x) (reachable-bounded (s .args .x) (s .pre)) (s .args .member) (s .args .token) (g .0) (g .1))
 
 put-banked-requires : tie.Need-put-banked-requires
 put-banked-requires c κs = let g = good (c .before .before .before) in omega arith

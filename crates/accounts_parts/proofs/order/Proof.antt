@@ -45,7 +45,11 @@ unfolding orderOn
 returns-2 c = let a = c .before .before .before .before .before .before .before .before .before .args in
     let t : ℕ = offered (a .o .side) (a .o .market) in
     let held : c .before .before .before .before .cell-of .result .0 ≡ cellOf (a .row) t = ap (λ (n : Amount). n .0) (c .before .before .before .before .cell-of .ensures) ∙ ap (cellOf (a .row)) (c .before .before .before .before .before .offered-token .ensures) in
-    rw (sym (c .before .before .before .before .before .before .before .before .in-use .ensures) ∙ c .before .before .before .before .before .before .before .if1 .left, lt-ltb (cellOf (a .row) t) (a .o .offer .0) (omega (arith, held, c .before .if2 .taken))) (c .refused2 .ensures)
+    rw (
+      sym (c .before .before .before .before .before .before .before .before .in-use .ensures) ∙ c .before .before .before .before .before .before .before .if1 .left,
+      lt-ltb (cellOf (a .row) t) (a .o .offer .0) (omega (arith, held, c .before .if2 .taken)),
+    )
+    (c .refused2 .ensures)
 
 debit-row-requires : tie.Need-debit-row-requires
 debit-row-requires c κs = search needs

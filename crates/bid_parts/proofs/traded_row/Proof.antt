@@ -23,7 +23,12 @@ returns c =
     let start = c .before .before .before .before .before .before in
     let s = start .args in
     let h = start .pre in
-    rw (c .before .credit-row .ensures, c .before .before .before .before .debit-row .ensures, c .before .before .offered-token .ensures, c .before .before .before .before .before .wanted-token .ensures)
+    rw (
+      c .before .credit-row .ensures,
+      c .before .before .before .before .debit-row .ensures,
+      c .before .before .offered-token .ensures,
+      c .before .before .before .before .before .wanted-token .ensures,
+    )
     (paid-row (s .row) (wanted (s .side) (s .number)) (offered (s .side) (s .number)) (s .give .0) (s .take .0) (h .1)
     (wanted-lt (s .side) (s .number) (h .0)) (offered-lt (s .side) (s .number) (h .0)) (h .2) (h .3))
 

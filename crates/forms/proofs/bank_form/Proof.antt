@@ -21,13 +21,21 @@ returns-3 : tie.Need-returns-3
 unfolding formOf
 returns-3 c =
     let a = c .before .before .before .args in
-    rw (le-ltb 15 (a .member) (omega (arith, c .before .before .if1 .left)), le-ltb 3 (a .token) (omega (arith, c .before .if2 .left)), eq-eqb (a .amount) 0 (c .if3 .taken))
+    rw (
+      le-ltb 15 (a .member) (omega (arith, c .before .before .if1 .left)),
+      le-ltb 3 (a .token) (omega (arith, c .before .if2 .left)),
+      eq-eqb (a .amount) 0 (c .if3 .taken),
+    )
 
 returns-4 : tie.Need-returns-4
 unfolding formOf
 returns-4 c =
     let a = c .before .before .before .args in
-    rw (le-ltb 15 (a .member) (omega (arith, c .before .before .if1 .left)), le-ltb 3 (a .token) (omega (arith, c .before .if2 .left)), ne-eqb (a .amount) 0 (c .if3 .left))
+    rw (
+      le-ltb 15 (a .member) (omega (arith, c .before .before .if1 .left)),
+      le-ltb 3 (a .token) (omega (arith, c .before .if2 .left)),
+      ne-eqb (a .amount) 0 (c .if3 .left),
+    )
 
 pub bank-form-spec : {M : Type 1} → statement M
 bank-form-spec = tie.close (tie.spec returns returns-2 returns-3 returns-4)

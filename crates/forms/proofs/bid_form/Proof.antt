@@ -21,25 +21,46 @@ returns-3 : tie.Need-returns-3
 unfolding formOf
 returns-3 c =
     let a = c .before .before .before .args in
-    rw (le-ltb 15 (a .member) (omega (arith, c .before .before .if1 .left)), le-ltb (a .market) 1 (omega (arith, c .before .if2 .left)), lt-ltb 3 (a .market) (omega (arith, c .if3 .taken)))
+    rw (
+      le-ltb 15 (a .member) (omega (arith, c .before .before .if1 .left)),
+      le-ltb (a .market) 1 (omega (arith, c .before .if2 .left)),
+      lt-ltb 3 (a .market) (omega (arith, c .if3 .taken)),
+    )
 
 returns-4 : tie.Need-returns-4
 unfolding formOf
 returns-4 c =
     let a = c .before .before .before .before .args in
-    rw (le-ltb 15 (a .member) (omega (arith, c .before .before .before .if1 .left)), le-ltb (a .market) 1 (omega (arith, c .before .before .if2 .left)), le-ltb 3 (a .market) (omega (arith, c .before .if3 .left)), lt-ltb 1 (a .side) (omega (arith, c .if4 .taken)))
+    rw (
+      le-ltb 15 (a .member) (omega (arith, c .before .before .before .if1 .left)),
+      le-ltb (a .market) 1 (omega (arith, c .before .before .if2 .left)),
+      le-ltb 3 (a .market) (omega (arith, c .before .if3 .left)),
+      lt-ltb 1 (a .side) (omega (arith, c .if4 .taken)),
+    )
 
 returns-5 : tie.Need-returns-5
 unfolding formOf
 returns-5 c =
     let a = c .before .before .before .before .before .args in
-    rw (le-ltb 15 (a .member) (omega (arith, c .before .before .before .before .if1 .left)), le-ltb (a .market) 1 (omega (arith, c .before .before .before .if2 .left)), le-ltb 3 (a .market) (omega (arith, c .before .before .if3 .left)), le-ltb 1 (a .side) (omega (arith, c .before .if4 .left)), eq-eqb (a .base) 0 (c .if5 .taken))
+    rw (
+      le-ltb 15 (a .member) (omega (arith, c .before .before .before .before .if1 .left)),
+      le-ltb (a .market) 1 (omega (arith, c .before .before .before .if2 .left)),
+      le-ltb 3 (a .market) (omega (arith, c .before .before .if3 .left)),
+      le-ltb 1 (a .side) (omega (arith, c .before .if4 .left)),
+      eq-eqb (a .base) 0 (c .if5 .taken),
+    )
 
 returns-6 : tie.Need-returns-6
 unfolding formOf
 returns-6 c =
     let a = c .before .before .before .before .before .args in
-    rw (le-ltb 15 (a .member) (omega (arith, c .before .before .before .before .if1 .left)), le-ltb (a .market) 1 (omega (arith, c .before .before .before .if2 .left)), le-ltb 3 (a .market) (omega (arith, c .before .before .if3 .left)), le-ltb 1 (a .side) (omega (arith, c .before .if4 .left)), ne-eqb (a .base) 0 (c .if5 .left))
+    rw (
+      le-ltb 15 (a .member) (omega (arith, c .before .before .before .before .if1 .left)),
+      le-ltb (a .market) 1 (omega (arith, c .before .before .before .if2 .left)),
+      le-ltb 3 (a .market) (omega (arith, c .before .before .if3 .left)),
+      le-ltb 1 (a .side) (omega (arith, c .before .if4 .left)),
+      ne-eqb (a .base) 0 (c .if5 .left),
+    )
 
 pub bid-form-spec : {M : Type 1} → statement M
 bid-form-spec = tie.close (tie.spec returns returns-2 returns-3 returns-4 returns-5 returns-6)
