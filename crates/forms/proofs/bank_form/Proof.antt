@@ -1,5 +1,4 @@
 -- `forms::bank_form` meets its contract.
-use native.Mathlib.Omega.{arith}
 use borrow.Author.Tests.{eq-eqb, le-ltb, lt-ltb, ne-eqb}
 use Rattle.model.specs.Parts.{formOf}
 use Rattle.forms.proofs.bank_form.Statement.{statement}
@@ -9,21 +8,21 @@ returns : tie.Need-returns
 unfolding formOf
 returns c =
     let a = c .before .args in
-    rw (lt-ltb 15 (a .member) (omega (arith, c .if1 .taken)))
+    rw (lt-ltb 15 (a .member) (c .if1 .taken))
 
 returns-2 : tie.Need-returns-2
 unfolding formOf
 returns-2 c =
     let a = c .before .before .args in
-    rw (le-ltb 15 (a .member) (omega (arith, c .before .if1 .left)), lt-ltb 3 (a .token) (omega (arith, c .if2 .taken)))
+    rw (le-ltb 15 (a .member) (c .before .if1 .left), lt-ltb 3 (a .token) (c .if2 .taken))
 
 returns-3 : tie.Need-returns-3
 unfolding formOf
 returns-3 c =
     let a = c .before .before .before .args in
     rw (
-      le-ltb 15 (a .member) (omega (arith, c .before .before .if1 .left)),
-      le-ltb 3 (a .token) (omega (arith, c .before .if2 .left)),
+      le-ltb 15 (a .member) (c .before .before .if1 .left),
+      le-ltb 3 (a .token) (c .before .if2 .left),
       eq-eqb (a .amount) 0 (c .if3 .taken),
     )
 
@@ -32,8 +31,8 @@ unfolding formOf
 returns-4 c =
     let a = c .before .before .before .args in
     rw (
-      le-ltb 15 (a .member) (omega (arith, c .before .before .if1 .left)),
-      le-ltb 3 (a .token) (omega (arith, c .before .if2 .left)),
+      le-ltb 15 (a .member) (c .before .before .if1 .left),
+      le-ltb 3 (a .token) (c .before .if2 .left),
       ne-eqb (a .amount) 0 (c .if3 .left),
     )
 

@@ -1,5 +1,4 @@
 -- `forms::ticket_form` meets its contract.
-use native.Mathlib.Omega.{arith}
 use borrow.Author.Tests.{le-ltb, lt-ltb}
 use Rattle.model.specs.Parts.{formOf}
 use Rattle.forms.proofs.ticket_form.Statement.{statement}
@@ -9,13 +8,13 @@ returns : tie.Need-returns
 unfolding formOf
 returns c =
     let a = c .before .args in
-    rw (lt-ltb 63 (a .ticket) (omega (arith, c .if1 .taken)))
+    rw (lt-ltb 63 (a .ticket) (c .if1 .taken))
 
 returns-2 : tie.Need-returns-2
 unfolding formOf
 returns-2 c =
     let a = c .before .args in
-    rw (le-ltb 63 (a .ticket) (omega (arith, c .if1 .left)))
+    rw (le-ltb 63 (a .ticket) (c .if1 .left))
 
 pub ticket-form-spec : {M : Type 1} → statement M
 ticket-form-spec = tie.close (tie.spec returns returns-2)
