@@ -1,0 +1,151 @@
+// The day program: reads call lines from standard input and writes the header and an answer line for each to standard output.
+ghost use mathlib.Core.Path.{_≡_};
+ghost use mathlib.Core.Bool.{true};
+ghost use Prim.Native.Nat.{_≤_};
+ghost use lib.ListN.{length};
+ghost use Rattle.model.specs.Run.{Reachable};
+ghost use Rattle.replay.specs.Pieces.{streamOf, after};
+use libc::STDERR_FILENO;
+use libc::STDIN_FILENO;
+use libc::STDOUT_FILENO;
+use replay::stream::Day;
+use replay::stream::feed;
+use replay::stream::finish;
+use replay::stream::fresh_day;
+
+const LAST_LINE: u32 = 4_294_967_295;
+
+// The day after a piece of the input, and whether its answers were written.
+struct Step {
+    day: Day,
+    written: bool,
+}
+
+// Why reading ended.
+enum End {
+    Finished,
+    CannotRead,
+    CannotWrite,
+}
+
+// The day when reading ended.
+struct Ended {
+    day: Day,
+    end: End,
+}
+
+// Feeds a piece of the input and writes what it answers.
+fn take_piece(d: Day, input: &[u8], out: &mut [u8]) -> Step
+    requires { ⌜ Reachable (d .exchange) ⌝ }
+    requires { ⌜ 36 ≤ length (now out) ⌝ }
+    ensures { λ r. ⌜ Reachable (r .day .exchange) ⌝ }
+    ensures { λ r. ⌜ r .written ≡ true → streamOf (r .day) ≡ after (streamOf d) (now (input .entry)) ⌝ }
+{
+    let mut day = d;
+    let mut from: usize = 0;
+    while from < input.len() {
+        let fed = feed(day, &input[from..], out);
+        let next = fed.day;
+        day = next;
+        let wrote = fed.wrote;
+        if !io::write_all(STDOUT_FILENO, &out[..wrote]) {
+            return Step {
+                day,
+                written: false,
+            };
+        }
+        from = from + fed.used;
+    }
+    Step { day, written: true }
+}
+
+// Reads to the end of the input, or until the last line is answered. A proved loop has to end, so it counts its turns down from a number
+// that no run uses up.
+fn take_all(d: Day, out: &mut [u8]) -> Ended
+    requires { ⌜ Reachable (d .exchange) ⌝ }
+    requires { ⌜ 36 ≤ length (now out) ⌝ }
+    ensures { λ r. ⌜ Reachable (r .day .exchange) ⌝ }
+{
+    let mut input = io::large_buffer();
+    let mut day = d;
+    let mut turns = u64::MAX;
+    while 0 < turns {
+        turns = turns - 1;
+        if LAST_LINE <= day.done {
+            return Ended {
+                day,
+                end: End::Finished,
+            };
+        }
+        let got = libc::read(STDIN_FILENO, &mut input);
+        if got < 0 {
+            return Ended {
+                day,
+                end: End::CannotRead,
+            };
+        }
+        if got == 0 {
+            return Ended {
+                day,
+                end: End::Finished,
+            };
+        }
+        let count = io::count(got, &input);
+        let step = take_piece(day, &input[..count], out);
+        let next = step.day;
+        day = next;
+        if !step.written {
+            return Ended {
+                day,
+                end: End::CannotWrite,
+            };
+        }
+    }
+    Ended {
+        day,
+        end: End::Finished,
+    }
+}
+
+// Answers the last line where it has no byte 10; answers whether that was written.
+fn take_last(d: Day, out: &mut [u8]) -> bool
+    requires { ⌜ Reachable (d .exchange) ⌝ }
+{
+    let fed = finish(d, out);
+    let wrote = fed.wrote;
+    io::write_all(STDOUT_FILENO, &out[..wrote])
+}
+
+// Replays the day after its header. How it ended is told.
+fn replay_day() -> End {
+    let mut out = io::large_buffer();
+    let ended = take_all(fresh_day(), &mut out);
+    let end = ended.end;
+    match end {
+        End::CannotRead => End::CannotRead,
+        End::CannotWrite => End::CannotWrite,
+        End::Finished => {
+            if take_last(ended.day, &mut out) {
+                return End::Finished;
+            }
+            End::CannotWrite
+        }
+    }
+}
+
+// A read or write that fails is told on standard error and ends the program.
+fn main() {
+    let mut end = End::CannotWrite;
+    if io::write_all(STDOUT_FILENO, b"line,code,first,second\n") {
+        end = replay_day();
+    }
+    match end {
+        End::Finished => {}
+        End::CannotRead => {
+            io::write_all(STDERR_FILENO, b"day: cannot read\n");
+        }
+        End::CannotWrite => {
+            io::write_all(STDERR_FILENO, b"day: cannot write\n");
+        }
+    }
+}

@@ -1,0 +1,124 @@
+-- Laws of `putAt`, `putInto` and `putCount`.
+use mathlib.Core.Path.{_≡_, refl, sym, ap, _∙_}
+use Prim.Native.Nat.{ℕ, zero, suc, _+_, _-_, _≤_, _<_}
+use native.Mathlib.Omega.{arith}
+use native.Mathlib.Nat.{le-of-suc-le-suc, not-suc-le-zero, zero-add, add-assoc}
+use mathlib.Core.List.{List, [], _∷_, _++_, append-assoc, append-nil}
+use lib.ListN.{length, take, drop, set, length-append, length-drop, drop-of-length-le}
+use lib.Seq.{take-all, drop-cons, set-at, length-take-le, drop-drop, take-at, drop-append-add}
+use borrow.Author.Tests.{le-leb, lt-leb}
+use Rattle.decimal.specs.Buffer.{putAt, putInto, putCount}
+
+module _ (out text : List ℕ) where
+  pub put-fits : length text ≤ length out → putInto out text ≡ text ++ drop (length text) out
+  unfolding putInto putAt
+  put-fits h = rw (le-leb _ _ h, zero-add)
+
+  pub put-at : length text ≤ length out → putInto out text ≡ putAt out 0 text
+  unfolding putInto
+  put-at h = rw (le-leb _ _ h)
+
+  pub put-short : length out < length text → putInto out text ≡ out
+  unfolding putInto
+  put-short h = rw (lt-leb _ _ h)
+
+  pub count-fits : length text ≤ length out → putCount out text ≡ length text
+  unfolding putCount
+  count-fits h = rw (le-leb _ _ h)
+
+  pub count-short : length out < length text → putCount out text ≡ 0
+  unfolding putCount
+  count-short h = rw (lt-leb _ _ h)
+
+-- a store at i, and what stands from i on
+pub drop-store : (l : List ℕ) (i a : ℕ) → i < length l → drop i (set l i a) ≡ a ∷ drop (suc i) l
+drop-store [] i a h = absurd (not-suc-le-zero h)
+drop-store (x ∷ l) zero a h = refl
+drop-store (x ∷ l) (suc i) a h = drop-store l i a (le-of-suc-le-suc h)
+
+-- a digit stored before what is written joins it: i is j less one
+pub joins : (before l : List ℕ) (i j a : ℕ) → j ≡ suc i → i < length l
+    → before ++ drop i (set l i a) ≡ (before ++ (a ∷ [])) ++ drop j l
+joins before l i j a e h = rw (e, drop-store l i a h, append-assoc)
+
+-- the part of a list from an index on, as a loan of it has it
+pub part-all : (xs : List ℕ) (at : ℕ) → take (length xs - at) (drop at xs) ≡ drop at xs
+part-all xs at = take-all (length xs - at) (drop at xs) (omega (arith, length-drop at xs))
+
+pub part-none : (xs : List ℕ) (at : ℕ) → drop (length xs - at) (drop at xs) ≡ []
+part-none xs at = drop-of-length-le (drop at xs) {i = length xs - at} (omega (arith, length-drop at xs))
+
+-- text put into the part from at on, when the part is back
+pub put-part : (xs t : List ℕ) (at : ℕ) → at + length t ≤ length xs
+    → take at xs ++ (putInto (take (length xs - at) (drop at xs)) t ++ drop (length xs - at) (drop at xs)) ≡ putAt xs at t
+unfolding putAt
+put-part xs t at h =
+    rw (part-all xs at, part-none xs at, append-nil, put-fits (drop at xs) t (omega (arith, length-drop at xs)), drop-drop (length t) at xs)
+
+-- text put into the part from at on, and then one byte after it
+pub put-field : (xs d : List ℕ) (at e : ℕ) → at + length d + 1 ≤ length xs
+    → set (take at xs ++ (putInto (drop at xs) d ++ drop (length xs - at) (drop at xs))) (at + length d) e
+    ≡ putAt xs at (d ++ (e ∷ []))
+unfolding putAt
+put-field xs d at e h =
+    let rest = drop at xs in
+    let lr : length rest ≡ length xs - at = length-drop at xs in
+    let p = take at xs ++ d in
+    let lp : length p ≡ at + length d = length-append (take at xs) d ∙ ap (λ (k : ℕ). k + length d) (length-take-le at xs (omega arith)) in
+    let tail : drop (suc (length d)) rest ≡ drop (at + length (d ++ (e ∷ []))) xs =
+    drop-drop (suc (length d)) at xs ∙ ap (λ (k : ℕ). drop (at + k) xs) (omega (arith, length-append d (e ∷ []))) in
+    ap (λ (l : List ℕ). set (take at xs ++ (putInto rest d ++ l)) (at + length d) e) (part-none xs at)
+    ∙ ap (λ (l : List ℕ). set (take at xs ++ l) (at + length d) e)
+    (append-nil (putInto rest d) ∙ put-fits rest d (omega arith) ∙ ap (λ (l : List ℕ). d ++ l) (drop-cons rest (length d) 0 (omega arith)))
+    ∙ ap (λ (l : List ℕ). set l (at + length d) e) (sym (append-assoc (take at xs) d _))
+    ∙ set-at p _ _ e (at + length d) lp
+    ∙ append-assoc (take at xs) d _
+    ∙ ap (λ (l : List ℕ). take at xs ++ (d ++ (e ∷ l))) tail
+    ∙ ap (λ (l : List ℕ). take at xs ++ l) (sym (append-assoc d (e ∷ []) _))
+
+-- text put after text is the two put at once
+pub put-put : (xs a b : List ℕ) (at : ℕ) → at + length a + length b ≤ length xs
+    → putAt (putAt xs at a) (at + length a) b ≡ putAt xs at (a ++ b)
+unfolding putAt
+put-put xs a b at h =
+    let rest = drop (at + length a) xs in
+    let p = take at xs ++ a in
+    let lp : length p ≡ at + length a = length-append (take at xs) a ∙ ap (λ (k : ℕ). k + length a) (length-take-le at xs (omega arith)) in
+    ap (λ (l : List ℕ). take (at + length a) l ++ (b ++ drop (at + length a + length b) l)) (sym (append-assoc (take at xs) a rest))
+    ∙ ap (λ (l : List ℕ). l ++ (b ++ drop (at + length a + length b) (p ++ rest))) (take-at p rest (at + length a) lp)
+    ∙ ap (λ (k : ℕ). p ++ (b ++ drop (k + length b) (p ++ rest))) (sym lp)
+    ∙ ap (λ (l : List ℕ). p ++ (b ++ l)) (drop-append-add p rest (length b) ∙ drop-drop (length b) (at + length a) xs)
+    ∙ append-assoc (take at xs) a _
+    ∙ ap (λ (l : List ℕ). take at xs ++ l) (sym (append-assoc a b _))
+    ∙ ap (λ (k : ℕ). take at xs ++ ((a ++ b) ++ drop k xs)) (add-assoc at (length a) (length b) ∙ ap (λ (k : ℕ). at + k) (sym (length-append a b)))
+
+pub put-length : (xs a : List ℕ) (at : ℕ) → at + length a ≤ length xs → length (putAt xs at a) ≡ length xs
+unfolding putAt
+put-length xs a at h =
+    length-append (take at xs) _
+    ∙ omega (arith, length-take-le at xs (omega arith), length-append a (drop (at + length a) xs), length-drop (at + length a) xs)
+
+-- a run of texts put one after the other from the front: y has t, and p is its length
+pub record Run (xs t y : List ℕ) (p : ℕ) : Type 0 where
+  pub text : y ≡ putAt xs 0 t
+  pub place : p ≡ length t
+
+pub run-one : (xs u y : List ℕ) (p : ℕ) → y ≡ putAt xs 0 u → p ≡ length u → Run xs u y p
+run-one xs u y p e l = record { text = e; place = l }
+
+pub run-more : (xs t y u z : List ℕ) (p q : ℕ) → Run xs t y p → length t + length u ≤ length xs
+    → z ≡ putAt y p u → q ≡ p + length u → Run xs (t ++ u) z q
+run-more xs t y u z p q r h e l =
+    record {
+      text =
+          e
+          ∙ ap (λ (w : List ℕ). putAt w p u) (r .text)
+          ∙ ap (λ (k : ℕ). putAt (putAt xs 0 t) k u) (r .place ∙ sym (zero-add (length t)))
+          ∙ put-put xs t u 0 (omega arith);
+      place = omega (arith, r .place, length-append t u);
+    }
+
+-- the whole run that fits
+pub run-all : (xs t y : List ℕ) (p : ℕ) → Run xs t y p → length t ≤ length xs → (p ≡ putCount xs t) × (y ≡ putInto xs t)
+unfolding putInto
+run-all xs t y p r h = (r .place ∙ sym (count-fits xs t h), r .text ∙ rw (le-leb _ _ h))

@@ -1,0 +1,18 @@
+-- Text put into a lent buffer.
+use Prim.Native.Nat.{ℕ, _+_}
+use mathlib.Core.Bool.{cond}
+use mathlib.Core.List.{List, _++_}
+use lib.ListN.{length, take, drop}
+use lib.Dec.{leb}
+
+-- text over out from index at on; every other byte stays
+unfoldable pub putAt : List ℕ → ℕ → List ℕ → List ℕ
+putAt out at text = take at out ++ (text ++ drop (at + length text) out)
+
+-- text at the start of out where out is long enough; else out as it is
+unfoldable pub putInto : List ℕ → List ℕ → List ℕ
+putInto out text = cond (leb (length text) (length out)) (putAt out 0 text) out
+
+-- how many bytes that takes, 0 where out is too short
+unfoldable pub putCount : List ℕ → List ℕ → ℕ
+putCount out text = cond (leb (length text) (length out)) (length text) 0

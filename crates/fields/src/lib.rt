@@ -1,0 +1,136 @@
+// The field reader: the numbers of a line, read where it lies.
+ghost use mathlib.Core.Path.{_≡_};
+ghost use Rattle.fields.specs.Fields.{isFieldByte, commaAt, withDigit, fieldsEnd, fieldsAt};
+
+// The numbers that a line begins with, the kind and its fields, and the place where the reader stopped. They are good where each is a
+// number and there are at most eight; else count and values are 0.
+pub struct Fields {
+    pub good: bool,
+    pub count: usize,
+    pub values: [u32; 8],
+    pub stop: usize,
+}
+
+// A field's value with one byte more: it is a digit, or the field ends before it, or the field is no number.
+pub enum Digit {
+    Value(u32),
+    End,
+    Bad,
+}
+
+// The byte b after a field's value. started says that the field has a digit already.
+fn with_digit(started: bool, value: u32, b: u8) -> Digit
+    ensures { λ r. ⌜ r ≡ withDigit started value b ⌝ }
+{
+    if b < b'0' {
+        return Digit::End;
+    }
+    if b'9' < b {
+        return Digit::End;
+    }
+    if started {
+        if value == 0 {
+            return Digit::Bad;
+        }
+    }
+    let next = (value as u64) * 10 + ((b - b'0') as u64);
+    if 4294967295 < next {
+        return Digit::Bad;
+    }
+    Digit::Value(next as u32)
+}
+
+// Whether a comma stands at a place.
+fn comma_at(bytes: &[u8], at: usize) -> bool
+    ensures { λ r. ⌜ r ≡ commaAt (now (bytes .entry)) at ⌝ }
+{
+    if at < bytes.len() {
+        return bytes[at] == b',';
+    }
+    false
+}
+
+// Whether a byte is a digit or a comma.
+fn is_field_byte(b: u8) -> bool
+    ensures { λ r. ⌜ r ≡ isFieldByte b ⌝ }
+{
+    if b == b',' {
+        return true;
+    }
+    if b < b'0' {
+        return false;
+    }
+    b <= b'9'
+}
+
+// The place of the first byte from a place on that is neither digit nor comma, or the end.
+fn fields_end(bytes: &[u8], from: usize) -> usize
+    ensures { λ r. ⌜ r ≡ fieldsEnd (now (bytes .entry)) from ⌝ }
+{
+    let mut i = from;
+    while i < bytes.len() {
+        if !is_field_byte(bytes[i]) {
+            return i;
+        }
+        i = i + 1;
+    }
+    i
+}
+
+// Reads fields from a place on: "The field reader stops at the first byte that is neither digit nor comma".
+pub fn read_fields(bytes: &[u8], from: usize) -> Fields
+    ensures { λ r. ⌜ r ≡ fieldsAt (now (bytes .entry)) from ⌝ }
+{
+    let mut values = [0u32; 8];
+    let mut count: usize = 0;
+    let n = bytes.len();
+    let mut i = from;
+    let mut good = false;
+    'line: loop {
+        // a field: digits up to the byte after them
+        let start = i;
+        let mut value: u32 = 0;
+        while i < n {
+            let d = with_digit(start < i, value, bytes[i]);
+            match d {
+                Digit::Value(next) => {
+                    value = next;
+                }
+                Digit::End => {
+                    break;
+                }
+                Digit::Bad => {
+                    break 'line;
+                }
+            }
+            i = i + 1;
+        }
+        if i == start {
+            break 'line;
+        }
+        if count == 8 {
+            break 'line;
+        }
+        values[count] = value;
+        count = count + 1;
+        if !comma_at(bytes, i) {
+            good = true;
+            break 'line;
+        }
+        i = i + 1;
+    }
+    if good {
+        return Fields {
+            good: true,
+            count,
+            values,
+            stop: i,
+        };
+    }
+    Fields {
+        good: false,
+        count: 0,
+        values: [0; 8],
+        stop: fields_end(bytes, i),
+    }
+}

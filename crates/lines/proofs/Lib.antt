@@ -1,0 +1,3 @@
+pub mod AnswerLines
+pub mod CallLaws
+pub mod RoundTrip

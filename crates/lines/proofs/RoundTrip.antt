@@ -1,0 +1,341 @@
+-- A call written and read again is the same call, and a line that the reader accepts is the line that its call is written as.
+use mathlib.Core.Path.{_≡_, refl, sym, ap, _∙_, subst}
+use mathlib.Core.Bool.{Bool, true, false, _&&_}
+use mathlib.Core.List.{List, [], _∷_, _++_, map, append-assoc, append-nil}
+use mathlib.Core.Option.{Option, some, none}
+use Prim.Native.Nat.{ℕ, zero, suc, _+_, _-_, _*_, _/_, _%_, _≤_, _<_}
+use native.Mathlib.Omega.{arith}
+use native.Mathlib.Nat.{le-refl, not-suc-le-zero, lt-of-lt-of-le, not-le-of-lt}
+use lib.Arith.{lt-of-le-ne, le-zero}
+use lib.ListN.{length, length-append}
+use lib.Dec.{leb, ltb, eqb, lit<}
+use borrow.Author.Tests.{le-leb, ne-eqb, leb-true, ltb-true, ltb-false, eqb-false, eqb-true}
+use Rattle.units.specs.Counts.{largest}
+use Rattle.units.specs.Decimal.{digits}
+use Rattle.fields.specs.Grammar.{isDigit, allDigits, valueFrom, isNumber, numberOf, onFirst, partsOf, numbersOf, lineNumbers, longestLine}
+use Rattle.fields.proofs.Scan.{by-test, by-order, low, high, value-more, all-more, number-good}
+use Rattle.fields.proofs.LineLaws.{line-short}
+use Rattle.model.specs.declared.call.Call.{Call}
+use Rattle.model.specs.declared.call.Call.the-variants.{Deposit, Withdraw, Order, Cancel, Open, Enter, Match, Bid, Settle, Claim}
+use Rattle.lines.specs.declared.call.Reading.the-variants.{Read, NoCall}
+use Rattle.lines.specs.CallLines.{ofKind, callOf, callOfNumbers, readingOf}
+use Rattle.lines.specs.CallText.{numbersOfCall, joinParts, lineOfNumbers, lineOfCall}
+use Rattle.decimal.proofs.Digits.{digits-bound, lead, lead-none, lead-step, digits-step}
+use Rattle.lines.proofs.CallLaws.{deposit-is, withdraw-is, order-is, cancel-is, open-is, enter-is, match-is, bid-is, settle-is, claim-is, no-fields, no-one, no-two, no-three, no-four, no-five, no-six, no-seven}
+
+and-left : (x y : Bool) → (x && y) ≡ true → x ≡ true
+and-left true y e = refl
+and-left false y e = e
+
+-- ---- read, then written
+
+-- a digit after a positive number
+lead-more : (v b : ℕ) → 0 < v → isDigit b ≡ true → lead (v * 10 + (b - 48)) ≡ lead v ++ (b ∷ [])
+lead-more v b p e =
+    let l : 48 ≤ b = low b e in
+    let h : b ≤ 57 = high b e in
+    let q : (v * 10 + (b - 48)) / 10 ≡ v = omega arith in
+    let r : 48 + (v * 10 + (b - 48)) % 10 ≡ b = omega arith in
+    lead-step (v * 10 + (b - 48)) (omega arith)
+    ∙ ap (λ (k : ℕ). lead k ++ ((48 + (v * 10 + (b - 48)) % 10) ∷ [])) q
+    ∙ ap (λ (k : ℕ). lead v ++ (k ∷ [])) r
+
+lead-all : (bs : List ℕ) (v : ℕ) → 0 < v → allDigits bs ≡ true → lead (valueFrom v bs) ≡ lead v ++ bs
+lead-all [] v p a = sym (append-nil (lead v))
+lead-all (b ∷ bs) v p a =
+    by-test
+    (isDigit b)
+    (λ e.
+    lead-all bs (v * 10 + (b - 48)) (omega arith) (rw e at a)
+    ∙ ap (λ (l : List ℕ). l ++ bs) (lead-more v b p e)
+    ∙ append-assoc (lead v) (b ∷ []) bs)
+    (λ e. absurd (eqb-false 0 0 (sym (rw e at a)) refl))
+
+digits-lead : (n : ℕ) → 0 < n → digits n ≡ lead n
+digits-lead n p = digits-step n ∙ sym (lead-step n p)
+
+value-pos : (v : ℕ) (bs : List ℕ) → 0 < v → 0 < valueFrom v bs
+value-pos v [] p = p
+value-pos v (b ∷ bs) p = value-pos (v * 10 + (b - 48)) bs (omega arith)
+
+-- digits that do not begin with 0
+written-plain : (d : ℕ) (bs : List ℕ) → (d ≡ 48 → ⊥) → allDigits (d ∷ bs) ≡ true → digits (valueFrom 0 (d ∷ bs)) ≡ d ∷ bs
+written-plain d bs z a =
+    by-test
+    (isDigit d)
+    (λ e.
+    let l : 48 < d = lt-of-le-ne (low d e) (λ q. z (sym q)) in
+    let h : d ≤ 57 = high d e in
+    let v : 0 < 0 * 10 + (d - 48) = omega arith in
+    digits-lead (valueFrom (0 * 10 + (d - 48)) bs) (value-pos (0 * 10 + (d - 48)) bs v)
+    ∙ lead-all bs (0 * 10 + (d - 48)) v (rw e at a)
+    ∙ ap (λ (l : List ℕ). l ++ bs)
+    (lead-step (0 * 10 + (d - 48)) v
+    ∙ ap (λ (k : List ℕ). k ++ ((48 + (0 * 10 + (d - 48)) % 10) ∷ [])) (lead-none ((0 * 10 + (d - 48)) / 10) (omega arith))
+    ∙ ap (λ (k : ℕ). k ∷ []) (omega arith)))
+    (λ e. absurd (eqb-false 0 0 (sym (rw e at a)) refl))
+
+written-zero : digits 0 ≡ 48 ∷ []
+unfolding digits
+written-zero = refl
+
+number-text : (f : List ℕ) → isNumber f ≡ true → digits (valueFrom 0 f) ≡ f
+number-text [] e = absurd (eqb-false 0 0 (sym e) refl)
+number-text (d ∷ []) e =
+    by-test
+    (eqb d 48)
+    (λ t. subst (λ (x : ℕ). digits (valueFrom 0 (x ∷ [])) ≡ x ∷ []) (sym (eqb-true d 48 t)) written-zero)
+    (λ t. written-plain d [] (eqb-false d 48 t) (rw e))
+number-text (d ∷ (g ∷ bs)) e =
+    by-test
+    (eqb d 48)
+    (λ t. absurd (eqb-false 0 0 (sym (rw t at e)) refl))
+    (λ t. written-plain d (g ∷ bs) (eqb-false d 48 t) (rw t at e))
+
+pub number-written : (f : List ℕ) (n : ℕ) → numberOf f ≡ some n → digits n ≡ f
+unfolding numberOf
+number-written f n e =
+    by-test
+    (isNumber f && leb (valueFrom 0 f) largest)
+    (λ t. ap digits (same (valueFrom 0 f) n (rw t at e)) ∙ number-text f (and-left _ _ t))
+    (λ t. absurd (differ n (rw t at e)))
+  where
+    same : (a b : ℕ) → _≡_ {A = Option ℕ} (some a) (some b) → b ≡ a
+    same a b p = cc
+
+    differ : (a : ℕ) → _≡_ {A = Option ℕ} none (some a) → ⊥
+    differ a p = let z : _≡_ {A = ℕ} 0 1 = cc in omega arith
+
+pub by-option : {A P : Type 0} (o : Option A) → (o ≡ none → P) → ((a : A) → o ≡ some a → P) → P
+by-option none f g = f refl
+by-option (some a) f g = g a refl
+
+pub numbers-written : (ps : List (List ℕ)) (ns : List ℕ) → numbersOf ps ≡ some ns → map digits ns ≡ ps
+numbers-written [] ns e = ap (map digits) (same [] ns e)
+  where
+    same : (a b : List ℕ) → _≡_ {A = Option (List ℕ)} (some a) (some b) → b ≡ a
+    same a b p = cc
+numbers-written (p ∷ ps) ns e =
+    by-option (numberOf p)
+    (λ f. absurd (differ ns (rw f at e)))
+    (λ n f.
+    by-option (numbersOf ps)
+    (λ g. absurd (differ ns (rw (f, g) at e)))
+    (λ ms g.
+    ap (map digits) (same (n ∷ ms) ns (rw (f, g) at e))
+    ∙ ap (λ (x : List ℕ). x ∷ map digits ms) (number-written p n f)
+    ∙ ap (λ (x : List (List ℕ)). p ∷ x) (numbers-written ps ms g)))
+  where
+    same : (a b : List ℕ) → _≡_ {A = Option (List ℕ)} (some a) (some b) → b ≡ a
+    same a b p = cc
+
+    differ : (a : List ℕ) → _≡_ {A = Option (List ℕ)} none (some a) → ⊥
+    differ a p = let z : _≡_ {A = ℕ} 0 1 = cc in omega arith
+
+-- the parts of a line make the line
+join-first : (b : ℕ) (ps : List (List ℕ)) → joinParts (onFirst b ps) ≡ b ∷ joinParts ps
+join-first b [] = refl
+join-first b (p ∷ []) = refl
+join-first b (p ∷ (q ∷ ps)) = refl
+
+join-comma : (bs : List ℕ) → joinParts ([] ∷ partsOf bs) ≡ 44 ∷ joinParts (partsOf bs)
+join-comma [] = refl
+join-comma (b ∷ bs) = by-test (eqb b 44) (λ e. rw e) (λ e. rw e (on-first b (partsOf bs)))
+  where
+    on-first : (b : ℕ) (ps : List (List ℕ)) → joinParts ([] ∷ onFirst b ps) ≡ 44 ∷ joinParts (onFirst b ps)
+    on-first b [] = refl
+    on-first b (p ∷ ps) = refl
+
+pub partsOf-line : (line : List ℕ) → joinParts (partsOf line) ≡ line
+partsOf-line [] = refl
+partsOf-line (b ∷ bs) =
+    by-test
+    (eqb b 44)
+    (λ e. rw e (join-comma bs ∙ ap (λ (l : List ℕ). 44 ∷ l) (partsOf-line bs) ∙ ap (λ (x : ℕ). x ∷ bs) (sym (eqb-true b 44 e))))
+    (λ e. rw e (join-first b (partsOf bs) ∙ ap (λ (l : List ℕ). b ∷ l) (partsOf-line bs)))
+
+-- a line that the reader accepts is the line of its numbers
+pub read-written : (line ns : List ℕ) → lineNumbers line ≡ some ns → lineOfNumbers ns ≡ line
+unfolding lineNumbers lineOfNumbers
+read-written line ns e =
+    by-test
+    (leb (length line) longestLine)
+    (λ t. ap joinParts (numbers-written (partsOf line) ns (rw t at e)) ∙ partsOf-line line)
+    (λ t. absurd (differ ns (rw t at e)))
+  where
+    differ : (a : List ℕ) → _≡_ {A = Option (List ℕ)} none (some a) → ⊥
+    differ a p = let z : _≡_ {A = ℕ} 0 1 = cc in omega arith
+
+-- ---- written, then read
+
+-- a positive number's digits: the first is not 0, and they read as the number
+pub record Plain (m : ℕ) (l : List ℕ) : Type 0 where
+  pub first : ℕ
+  pub others : List ℕ
+  pub is : l ≡ first ∷ others
+  pub not-zero : first ≡ 48 → ⊥
+  pub all : allDigits (first ∷ others) ≡ true
+  pub value : valueFrom 0 (first ∷ others) ≡ m
+
+last-digit : (m : ℕ) → isDigit (48 + m % 10) ≡ true
+last-digit m = rw (le-leb 48 (48 + m % 10) (omega arith), le-leb (48 + m % 10) 57 (omega arith))
+
+lead-plain : (f m : ℕ) → m ≤ f → 0 < m → Plain m (lead m)
+lead-plain zero m h p = absurd (not-suc-le-zero (lt-of-lt-of-le p h))
+lead-plain (suc f) m h p =
+    by-order 0 (m / 10)
+    (λ q.
+    let s : Plain (m / 10) (lead (m / 10)) = lead-plain f (m / 10) (omega arith) q in
+    record {
+      first = s .first;
+      others = s .others ++ ((48 + m % 10) ∷ []);
+      is = lead-step m p ∙ ap (λ (l : List ℕ). l ++ ((48 + m % 10) ∷ [])) (s .is);
+      not-zero = s .not-zero;
+      all = all-more (s .first ∷ s .others) (48 + m % 10) (s .all) (last-digit m);
+      value = value-more 0 (s .first ∷ s .others) (48 + m % 10) ∙ ap (λ (k : ℕ). k * 10 + (48 + m % 10 - 48)) (s .value) ∙ omega arith;
+    })
+    (λ q.
+    record {
+      first = 48 + m % 10;
+      others = [];
+      is = lead-step m p ∙ ap (λ (l : List ℕ). l ++ ((48 + m % 10) ∷ [])) (lead-none (m / 10) q);
+      not-zero = λ z. not-suc-le-zero (lt-of-lt-of-le p (omega arith));
+      all = rw (last-digit m);
+      value = omega arith;
+    })
+
+zero-read : numberOf (digits 0) ≡ some 0
+unfolding numberOf digits
+zero-read = refl
+
+pub number-read : (n : ℕ) → n ≤ largest → numberOf (digits n) ≡ some n
+number-read n h =
+    by-order 0 n
+    (λ p.
+    let s : Plain n (lead n) = lead-plain n n (le-refl n) p in
+    ap numberOf (digits-lead n p ∙ s .is) ∙ number-good (s .first) (s .others) n (s .not-zero) (s .all) (sym (s .value)) h)
+    (λ q. subst (λ (k : ℕ). numberOf (digits k) ≡ some k) (sym (le-zero q)) zero-read)
+
+-- digits have no comma
+digits-all : (n : ℕ) → allDigits (digits n) ≡ true
+digits-all n =
+    ap allDigits (digits-step n)
+    ∙ by-order 0 (n / 10)
+    (λ p.
+    let s : Plain (n / 10) (lead (n / 10)) = lead-plain (n / 10) (n / 10) (le-refl (n / 10)) p in
+    all-more (lead (n / 10)) (48 + n % 10) (ap allDigits (s .is) ∙ s .all) (last-digit n))
+    (λ q. ap (λ (l : List ℕ). allDigits (l ++ ((48 + n % 10) ∷ []))) (lead-none (n / 10) q) ∙ rw (last-digit n))
+
+no-comma : (d : ℕ) → isDigit d ≡ true → eqb d 44 ≡ false
+no-comma d e = ne-eqb d 44 (λ q. not-le-of-lt (lit< tt) (subst (λ (x : ℕ). 48 ≤ x) q (low d e)))
+
+both : (d : ℕ) (ds : List ℕ) → allDigits (d ∷ ds) ≡ true → (isDigit d ≡ true) × (allDigits ds ≡ true)
+both d ds a = by-test (isDigit d) (λ e. (e, rw e at a)) (λ e. absurd (eqb-false 0 0 (sym (rw e at a)) refl))
+
+partsOf-more : (ds rest : List ℕ) → allDigits ds ≡ true → partsOf (ds ++ (44 ∷ rest)) ≡ ds ∷ partsOf rest
+partsOf-more [] rest a = refl
+partsOf-more (d ∷ ds) rest a =
+    rw (no-comma d (both d ds a .0)) (ap (onFirst d) (partsOf-more ds rest (both d ds a .1)))
+
+partsOf-one : (ds : List ℕ) → allDigits ds ≡ true → partsOf ds ≡ ds ∷ []
+partsOf-one [] a = refl
+partsOf-one (d ∷ ds) a = rw (no-comma d (both d ds a .0)) (ap (onFirst d) (partsOf-one ds (both d ds a .1)))
+
+abbrev pub Small : List ℕ → Type 0
+Small [] = Unit {0}
+Small (n ∷ ns) = (n ≤ largest) × Small ns
+
+pub numbers-read : (n : ℕ) (ns : List ℕ) → Small (n ∷ ns) → numbersOf (partsOf (joinParts (map digits (n ∷ ns)))) ≡ some (n ∷ ns)
+numbers-read n [] s = rw (partsOf-one (digits n) (digits-all n), number-read n (s .0))
+numbers-read n (m ∷ ns) s =
+    rw (partsOf-more (digits n) (joinParts (map digits (m ∷ ns))) (digits-all n), number-read n (s .0), numbers-read m ns (s .1))
+
+numbers-length : (n : ℕ) (ns : List ℕ) → Small (n ∷ ns) → length (joinParts (map digits (n ∷ ns))) ≤ 10 + 11 * length ns
+numbers-length n [] s = omega (arith, digits-bound n (omega (arith, s .0)))
+numbers-length n (m ∷ ns) s =
+    omega
+    (arith, digits-bound n (omega (arith, s .0)), numbers-length m ns (s .1), length-append (digits n) (44 ∷ joinParts (map digits (m ∷ ns))))
+
+-- what the writer makes of numbers reads as those numbers
+pub written-read : (n : ℕ) (ns : List ℕ) → Small (n ∷ ns) → length ns ≤ 6 → lineNumbers (lineOfNumbers (n ∷ ns)) ≡ some (n ∷ ns)
+unfolding lineOfNumbers
+written-read n ns s h = line-short _ (omega (arith, numbers-length n ns s)) ∙ numbers-read n ns s
+
+-- ---- calls
+
+-- every number of the call is at most 4,294,967,295, as in a Call of the code
+pub call-round : (c : Call) → Small (numbersOfCall c) → readingOf (lineOfCall c) ≡ Read c
+unfolding lineOfCall readingOf ofKind
+call-round (Deposit a b c) s = ap callOfNumbers (written-read 1 (a ∷ (b ∷ (c ∷ []))) s (omega arith))
+call-round (Withdraw a b c) s = ap callOfNumbers (written-read 2 (a ∷ (b ∷ (c ∷ []))) s (omega arith))
+call-round (Order a b c d e f) s = ap callOfNumbers (written-read 3 (a ∷ (b ∷ (c ∷ (d ∷ (e ∷ (f ∷ [])))))) s (omega arith))
+call-round (Cancel a b) s = ap callOfNumbers (written-read 4 (a ∷ (b ∷ [])) s (omega arith))
+call-round (Open a b c d e) s = ap callOfNumbers (written-read 5 (a ∷ (b ∷ (c ∷ (d ∷ (e ∷ []))))) s (omega arith))
+call-round (Enter a) s = ap callOfNumbers (written-read 6 (a ∷ []) s (omega arith))
+call-round (Match a b) s = ap callOfNumbers (written-read 7 (a ∷ (b ∷ [])) s (omega arith))
+call-round (Bid a b c d e f) s = ap callOfNumbers (written-read 8 (a ∷ (b ∷ (c ∷ (d ∷ (e ∷ (f ∷ [])))))) s (omega arith))
+call-round (Settle a b) s = ap callOfNumbers (written-read 9 (a ∷ (b ∷ [])) s (omega arith))
+call-round (Claim a) s = ap callOfNumbers (written-read 10 (a ∷ []) s (omega arith))
+
+-- the numbers of the call that a line's numbers are
+same-kind : (k j : ℕ) (ns : List ℕ) → eqb k j ≡ true → j ∷ ns ≡ k ∷ ns
+same-kind k j ns e = ap (λ (x : ℕ). x ∷ ns) (sym (eqb-true k j e))
+
+no-read : (c : Call) → NoCall ≡ Read c → ⊥
+no-read c e = let z : _≡_ {A = ℕ} 0 1 = cc in omega arith
+
+from-read : (ns : List ℕ) (c d : Call) → Read d ≡ Read c → numbersOfCall d ≡ ns → numbersOfCall c ≡ ns
+from-read ns c d e h = let same : c ≡ d = cc in ap numbersOfCall same ∙ h
+
+pub numbers-call : (ns : List ℕ) (c : Call) → callOf ns ≡ Read c → numbersOfCall c ≡ ns
+numbers-call [] c h = absurd (no-read c h)
+numbers-call (k ∷ []) c h = absurd (no-read c (no-fields k ∙ h))
+numbers-call (k ∷ (a ∷ [])) c h =
+    by-test (eqb k 6)
+    (λ t0. from-read _ c (Enter a) (enter-is k a (eqb-true k 6 t0) ∙ h) (same-kind k 6 (a ∷ []) t0))
+    (λ t0.
+    by-test (eqb k 10)
+    (λ t1. from-read _ c (Claim a) (claim-is k a (eqb-true k 10 t1) ∙ h) (same-kind k 10 (a ∷ []) t1))
+    (λ t1.
+    absurd (no-read c (no-one k a (eqb-false k 6 t0) (eqb-false k 10 t1) ∙ h))))
+numbers-call (k ∷ (a ∷ (b ∷ []))) c h =
+    by-test (eqb k 4)
+    (λ t0. from-read _ c (Cancel a b) (cancel-is k a b (eqb-true k 4 t0) ∙ h) (same-kind k 4 (a ∷ (b ∷ [])) t0))
+    (λ t0.
+    by-test (eqb k 7)
+    (λ t1. from-read _ c (Match a b) (match-is k a b (eqb-true k 7 t1) ∙ h) (same-kind k 7 (a ∷ (b ∷ [])) t1))
+    (λ t1.
+    by-test (eqb k 9)
+    (λ t2. from-read _ c (Settle a b) (settle-is k a b (eqb-true k 9 t2) ∙ h) (same-kind k 9 (a ∷ (b ∷ [])) t2))
+    (λ t2.
+    absurd (no-read c (no-two k a b (eqb-false k 4 t0) (eqb-false k 7 t1) (eqb-false k 9 t2) ∙ h)))))
+numbers-call (k ∷ (a ∷ (b ∷ (d ∷ [])))) c h =
+    by-test (eqb k 1)
+    (λ t0. from-read _ c (Deposit a b d) (deposit-is k a b d (eqb-true k 1 t0) ∙ h) (same-kind k 1 (a ∷ (b ∷ (d ∷ []))) t0))
+    (λ t0.
+    by-test (eqb k 2)
+    (λ t1. from-read _ c (Withdraw a b d) (withdraw-is k a b d (eqb-true k 2 t1) ∙ h) (same-kind k 2 (a ∷ (b ∷ (d ∷ []))) t1))
+    (λ t1.
+    absurd (no-read c (no-three k a b d (eqb-false k 1 t0) (eqb-false k 2 t1) ∙ h))))
+numbers-call (k ∷ (a ∷ (b ∷ (d ∷ (e ∷ []))))) c h = absurd (no-read c (no-four k a b d e ∙ h))
+numbers-call (k ∷ (a ∷ (b ∷ (d ∷ (e ∷ (f ∷ [])))))) c h =
+    by-test (eqb k 5)
+    (λ t0. from-read _ c (Open a b d e f) (open-is k a b d e f (eqb-true k 5 t0) ∙ h) (same-kind k 5 (a ∷ (b ∷ (d ∷ (e ∷ (f ∷ []))))) t0))
+    (λ t0.
+    absurd (no-read c (no-five k a b d e f (eqb-false k 5 t0) ∙ h)))
+numbers-call (k ∷ (a ∷ (b ∷ (d ∷ (e ∷ (f ∷ (g ∷ []))))))) c h =
+    by-test (eqb k 3)
+    (λ t0. from-read _ c (Order a b d e f g) (order-is k a b d e f g (eqb-true k 3 t0) ∙ h) (same-kind k 3 (a ∷ (b ∷ (d ∷ (e ∷ (f ∷ (g ∷ [])))))) t0))
+    (λ t0.
+    by-test (eqb k 8)
+    (λ t1. from-read _ c (Bid a b d e f g) (bid-is k a b d e f g (eqb-true k 8 t1) ∙ h) (same-kind k 8 (a ∷ (b ∷ (d ∷ (e ∷ (f ∷ (g ∷ [])))))) t1))
+    (λ t1.
+    absurd (no-read c (no-six k a b d e f g (eqb-false k 3 t0) (eqb-false k 8 t1) ∙ h))))
+numbers-call (k ∷ (a ∷ (b ∷ (d ∷ (e ∷ (f ∷ (g ∷ (i ∷ ns)))))))) c h = absurd (no-read c (no-seven k a b d e f g i ns ∙ h))
+
+pub line-round : (line : List ℕ) (c : Call) → readingOf line ≡ Read c → lineOfCall c ≡ line
+unfolding lineOfCall readingOf
+line-round line c e =
+    by-option (lineNumbers line)
+    (λ f. absurd (no-read c (sym (ap callOfNumbers f) ∙ e)))
+    (λ ns f. ap lineOfNumbers (numbers-call ns c (sym (ap callOfNumbers f) ∙ e)) ∙ read-written line ns f)

@@ -1,0 +1,4 @@
+pub mod LineRun
+pub mod StreamLaws
+pub mod FeedLaws
+pub mod DayText

@@ -1,0 +1,238 @@
+-- Laws of a stream of bytes: pieces put together, a line within a piece, and the line that is kept.
+use mathlib.Core.Path.{_≡_, refl, sym, ap, _∙_, subst}
+use mathlib.Core.Bool.{true, false, cond}
+use mathlib.Core.List.{List, [], _∷_, _++_, append-assoc, append-nil}
+use Prim.Native.Nat.{ℕ, zero, suc, _+_, _≤_, _<_}
+use native.Mathlib.Omega.{arith}
+use native.Mathlib.Nat.{not-suc-le-zero, le-of-suc-le-suc}
+use native.Mathlib.Numerals.{add-one}
+use lib.Dec.{ltb, eqb}
+use lib.ListN.{length, take, drop, set, getD, length-append, length-take, length-drop}
+use lib.Seq.{take-all, length-take-le, take-add, take-suc, take-suc-set, take-append-le}
+use borrow.Author.Tests.{lt-ltb, le-ltb, lt-leb, eqb-true}
+use Rattle.model.specs.declared.state.Exchange.{Exchange}
+use Rattle.model.specs.declared.answer.Outcome.{Outcome}
+use Rattle.model.specs.Answers.{answerLine}
+use Rattle.model.specs.Run.{Reachable, fitted}
+use Rattle.fields.specs.Grammar.{lineNumbers}
+use Rattle.fields.proofs.Scan.{by-test, by-order}
+use Rattle.lines.specs.CallLines.{readingOf, lineIn, lineAt}
+use Rattle.lines.specs.declared.call.LineAt.{LineAt}
+use Rattle.lines.specs.declared.call.Reading.{Reading}
+use Rattle.lines.specs.declared.call.Reading.the-variants.{NoCall}
+use Rattle.replay.specs.Lines.{outcomeOf, lineOutcome, lineText, lineRequestOf, takenOf}
+use Rattle.replay.specs.Days.{lastLine}
+use Rattle.replay.specs.Pieces.{Stream, keptBytes, lineEnd, lineMore, nextByte, byteText, after, textOf, StaysReachable}
+use Rattle.replay.proofs.LineRun.{reachable-line}
+
+-- ---- pieces put together
+
+pub after-append : (s : Stream) (a b : List ℕ) → after s (a ++ b) ≡ after (after s a) b
+after-append s [] b = refl
+after-append s (x ∷ a) b = after-append (nextByte s x) a b
+
+pub text-append : (s : Stream) (a b : List ℕ) → textOf s (a ++ b) ≡ textOf s a ++ textOf (after s a) b
+text-append s [] b = refl
+text-append s (x ∷ a) b =
+    ap (λ (t : List ℕ). byteText s x ++ t) (text-append (nextByte s x) a b) ∙ sym (append-assoc (byteText s x) (textOf (nextByte s x) a) _)
+
+-- ---- the line that is kept: 81 bytes do what the whole line does
+
+pub kept : (n : ℕ) (p q : List ℕ) → take n (take n p ++ q) ≡ take n (p ++ q)
+kept zero p q = refl
+kept (suc n) [] q = refl
+kept (suc n) (x ∷ p) q = ap (λ (l : List ℕ). x ∷ l) (kept n p q)
+
+-- a line kept in places of its own, with bytes of the input after it
+pub kept-none : (line : List ℕ) (len : ℕ) → len ≤ keptBytes → take len line ≡ take keptBytes (take len line ++ [])
+kept-none line len h = sym (ap (take 81) (append-nil (take len line)) ∙ take-all 81 (take len line) (omega (arith, length-take len line)))
+
+module _ (p input line : List ℕ) (len i : ℕ) (inside : i < length input) where
+  one-more : p ++ take (i + 1) input ≡ (p ++ take i input) ++ (getD input i 0 ∷ [])
+  one-more = ap (λ (l : List ℕ). p ++ l) (rw add-one (take-suc input i 0 inside)) ∙ sym (append-assoc p (take i input) (getD input i 0 ∷ []))
+
+  joins : take len line ≡ take keptBytes (p ++ take i input)
+      → take keptBytes (take len line ++ (getD input i 0 ∷ [])) ≡ take keptBytes (p ++ take (i + 1) input)
+  joins e =
+      ap (λ (l : List ℕ). take 81 (l ++ (getD input i 0 ∷ []))) e
+      ∙ kept keptBytes (p ++ take i input) (getD input i 0 ∷ [])
+      ∙ sym (ap (take 81) one-more)
+
+  pub kept-more : len < keptBytes → length line ≡ keptBytes → take len line ≡ take keptBytes (p ++ take i input)
+      → take (len + 1) (set line len (getD input i 0)) ≡ take keptBytes (p ++ take (i + 1) input)
+  kept-more h e k =
+      rw add-one (take-suc-set line len (getD input i 0) (omega (arith, e)))
+      ∙ sym (take-all 81 (take len line ++ (getD input i 0 ∷ []))
+      (omega (arith, length-append (take len line) (getD input i 0 ∷ []), length-take-le len line (omega (arith, e)))))
+      ∙ joins k
+
+  pub kept-full : keptBytes ≤ len → length line ≡ keptBytes → take len line ≡ take keptBytes (p ++ take i input)
+      → take len line ≡ take keptBytes (p ++ take (i + 1) input)
+  kept-full h e k =
+      let whole : take len line ≡ line = take-all len line (omega (arith, e)) in
+      whole
+      ∙ sym (ap (λ (l : List ℕ). take 81 (l ++ (getD input i 0 ∷ []))) whole
+      ∙ take-append-le 81 line (getD input i 0 ∷ []) (omega (arith, e))
+      ∙ take-all 81 line (omega (arith, e)))
+      ∙ joins k
+
+too-long : (p : List ℕ) → 80 < length p → readingOf p ≡ NoCall
+unfolding readingOf lineNumbers
+too-long p h = rw (lt-leb _ _ h)
+
+same-reading : (p : List ℕ) → readingOf (take keptBytes p) ≡ readingOf p
+same-reading p =
+    by-order keptBytes (length p)
+    (λ h. too-long (take 81 p) (omega (arith, length-take-le 81 p (omega arith))) ∙ sym (too-long p (omega arith)))
+    (λ h. ap readingOf (take-all 81 p h))
+
+pub same-outcome : (x : Exchange) (p : List ℕ) → lineOutcome x (take keptBytes p) ≡ lineOutcome x p
+unfolding lineOutcome
+same-outcome x p = ap (outcomeOf x) (same-reading p)
+
+pub same-text : (x : Exchange) (n : ℕ) (p : List ℕ) → lineText x n (take keptBytes p) ≡ lineText x n p
+unfolding lineText
+same-text x n p = ap (λ (o : Outcome). answerLine n (o .answer)) (same-outcome x p)
+
+pub same-taken : (x : Exchange) (n : ℕ) (p : List ℕ) (room : ℕ) → takenOf x n (take keptBytes p) room ≡ takenOf x n p room
+unfolding takenOf lineRequestOf lineText
+same-taken x n p room =
+    ap
+    (λ (o : Outcome).
+    let t = answerLine n (o .answer) in
+    record { answer = fitted x n room o .answer; exchange = fitted x n room o .exchange; used = cond (ltb room (length t)) 0 (length t) })
+    (same-outcome x p)
+
+-- ---- a stream after the bytes p of a line
+
+abbrev pub begun : Exchange → ℕ → List ℕ → Stream
+begun x n p = record { exchange = x; done = n; line = take keptBytes p }
+
+module _ (x : Exchange) (n : ℕ) (p : List ℕ) where
+  -- a byte 10
+  pub end-byte : n < lastLine → (b : ℕ) → eqb b 10 ≡ true → nextByte (begun x n p) b ≡ begun (lineOutcome x p .exchange) (n + 1) []
+  unfolding nextByte lineEnd
+  end-byte h b e = rw (lt-ltb n lastLine h, e) (ap (λ (o : Outcome). begun (o .exchange) (n + 1) []) (same-outcome x p))
+
+  pub end-text : n < lastLine → (b : ℕ) → eqb b 10 ≡ true → byteText (begun x n p) b ≡ lineText x (n + 1) p
+  unfolding byteText
+  end-text h b e = rw (lt-ltb n lastLine h, e) (same-text x (n + 1) p)
+
+  -- any other byte
+  pub more-byte : n < lastLine → (b : ℕ) → eqb b 10 ≡ false → nextByte (begun x n p) b ≡ begun x n (p ++ (b ∷ []))
+  unfolding nextByte
+  more-byte h b e = rw (lt-ltb n lastLine h, e) (ap (λ (l : List ℕ). record { exchange = x; done = n; line = l }) (kept keptBytes p (b ∷ [])))
+
+  pub more-text : n < lastLine → (b : ℕ) → eqb b 10 ≡ false → byteText (begun x n p) b ≡ []
+  unfolding byteText
+  more-text h b e = rw (lt-ltb n lastLine h, e)
+
+-- after the last line nothing happens
+module _ (s : Stream) (h : lastLine ≤ s .done) where
+  over-byte : (b : ℕ) → nextByte s b ≡ s
+  unfolding nextByte
+  over-byte b = rw (le-ltb (s .done) lastLine h)
+
+  over-silent : (b : ℕ) → byteText s b ≡ []
+  unfolding byteText
+  over-silent b = rw (le-ltb (s .done) lastLine h)
+
+  pub over-after : (bs : List ℕ) → after s bs ≡ s
+  over-after [] = refl
+  over-after (b ∷ bs) = ap (λ (v : Stream). after v bs) (over-byte b) ∙ over-after bs
+
+  pub over-text : (bs : List ℕ) → textOf s bs ≡ []
+  over-text [] = refl
+  over-text (b ∷ bs) =
+      ap (λ (t : List ℕ). t ++ textOf (nextByte s b) bs) (over-silent b) ∙ ap (λ (v : Stream). textOf v bs) (over-byte b) ∙ over-text bs
+
+-- ---- the line at the front of some bytes
+
+-- its bytes are no byte 10: they only join the line
+pub line-after : (x : Exchange) (n : ℕ) → n < lastLine → (bs p : List ℕ) → after (begun x n p) (lineIn bs) ≡ begun x n (p ++ lineIn bs)
+line-after x n h [] p = ap (begun x n) (sym (append-nil p))
+line-after x n h (b ∷ bs) p =
+    by-test (eqb b 10)
+    (λ e. rw e (ap (begun x n) (sym (append-nil p))))
+    (λ e.
+    rw e
+    (ap (λ (s : Stream). after s (lineIn bs)) (more-byte x n p h b e)
+    ∙ line-after x n h bs (p ++ (b ∷ []))
+    ∙ ap (begun x n) (append-assoc p (b ∷ []) (lineIn bs))))
+
+pub line-silent : (x : Exchange) (n : ℕ) → n < lastLine → (bs p : List ℕ) → textOf (begun x n p) (lineIn bs) ≡ []
+line-silent x n h [] p = refl
+line-silent x n h (b ∷ bs) p =
+    by-test (eqb b 10)
+    (λ e. rw e)
+    (λ e.
+    rw e
+    (ap (λ (t : List ℕ). t ++ textOf (nextByte (begun x n p) b) (lineIn bs)) (more-text x n p h b e)
+    ∙ ap (λ (s : Stream). textOf s (lineIn bs)) (more-byte x n p h b e)
+    ∙ line-silent x n h bs (p ++ (b ∷ []))))
+
+-- with its byte 10 it is answered
+module _ (x : Exchange) (n : ℕ) (h : n < lastLine) (bs p : List ℕ) where
+  pub ended-after : after (begun x n p) (lineIn bs ++ (10 ∷ [])) ≡ begun (lineOutcome x (p ++ lineIn bs) .exchange) (n + 1) []
+  ended-after =
+      after-append (begun x n p) (lineIn bs) (10 ∷ [])
+      ∙ ap (λ (s : Stream). nextByte s 10) (line-after x n h bs p)
+      ∙ end-byte x n (p ++ lineIn bs) h 10 refl
+
+  pub ended-text : textOf (begun x n p) (lineIn bs ++ (10 ∷ [])) ≡ lineText x (n + 1) (p ++ lineIn bs)
+  ended-text =
+      text-append (begun x n p) (lineIn bs) (10 ∷ [])
+      ∙ ap (λ (t : List ℕ). t ++ textOf (after (begun x n p) (lineIn bs)) (10 ∷ [])) (line-silent x n h bs p)
+      ∙ append-nil (byteText (after (begun x n p) (lineIn bs)) 10)
+      ∙ ap (λ (s : Stream). byteText s 10) (line-after x n h bs p)
+      ∙ end-text x n (p ++ lineIn bs) h 10 refl
+
+-- ---- where the line lies
+
+pub line-within : (bs : List ℕ) → length (lineIn bs) ≤ length bs
+line-within [] = omega arith
+line-within (b ∷ bs) = by-test (eqb b 10) (λ e. rw e (omega arith)) (λ e. rw e (omega (arith, line-within bs)))
+
+pub line-front : (bs : List ℕ) → take (length (lineIn bs)) bs ≡ lineIn bs
+line-front [] = refl
+line-front (b ∷ bs) = by-test (eqb b 10) (λ e. rw e) (λ e. rw e (ap (λ (l : List ℕ). b ∷ l) (line-front bs)))
+
+ten-next : (bs : List ℕ) → length (lineIn bs) < length bs → take (suc (length (lineIn bs))) bs ≡ lineIn bs ++ (10 ∷ [])
+ten-next [] h = absurd (not-suc-le-zero h)
+ten-next (b ∷ bs) h =
+    by-test (eqb b 10)
+    (λ e. rw e (ap (λ (k : ℕ). k ∷ []) (eqb-true b 10 e)))
+    (λ e. rw e (ap (λ (l : List ℕ). b ∷ l) (ten-next bs (le-of-suc-le-suc (rw e at h)))))
+
+pub line-ten : (bs : List ℕ) → length (lineIn bs) < length bs → take (length (lineIn bs) + 1) bs ≡ lineIn bs ++ (10 ∷ [])
+line-ten bs h = rw add-one (ten-next bs h)
+
+-- what reading the line at a place answers
+module _ (l : LineAt) (bytes : List ℕ) (from : ℕ) (is : l ≡ lineAt bytes from) where
+  pub line-end-is : l .end ≡ from + length (lineIn (drop from bytes))
+  unfolding lineAt
+  line-end-is = ap (λ (r : LineAt). r .end) is
+
+  pub line-read-is : l .reading ≡ readingOf (lineIn (drop from bytes))
+  unfolding lineAt
+  line-read-is = ap (λ (r : LineAt). r .reading) is
+
+pub line-inside : (bytes : List ℕ) (from : ℕ) → from ≤ length bytes → from + length (lineIn (drop from bytes)) ≤ length bytes
+line-inside bytes from h = omega (arith, line-within (drop from bytes), length-drop from bytes)
+
+-- from place i on
+pub front-more : (input : List ℕ) (i k : ℕ) → take (i + k) input ≡ take i input ++ take k (drop i input)
+front-more input i k = take-add i k input
+
+-- ---- states that calls can leave
+
+byte-reachable : (s : Stream) → Reachable (s .exchange) → (b : ℕ) → Reachable (nextByte s b .exchange)
+unfolding nextByte lineEnd
+byte-reachable s l b =
+    by-test (ltb (s .done) lastLine)
+    (λ e. rw e (by-test (eqb b 10) (λ t. rw t (reachable-line (s .exchange) l (s .line))) (λ t. rw t l)))
+    (λ e. rw e l)
+
+pub after-reachable : StaysReachable
+after-reachable s l [] = l
+after-reachable s l (b ∷ bs) = after-reachable (nextByte s b) (byte-reachable s l b) bs

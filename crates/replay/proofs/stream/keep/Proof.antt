@@ -1,0 +1,72 @@
+use mathlib.Core.Path.{_≡_, refl, sym, ap, _∙_}
+use mathlib.Core.Logic.{⊎-elim}
+use mathlib.Core.List.{List, [], _∷_, _++_, append-nil, append-assoc}
+use Prim.Native.Nat.{ℕ, _+_, _-_, _≤_, _<_}
+use native.Mathlib.Omega.{arith}
+use borrow.Author.Needs.{needs}
+use lib.ListN.{length, take, set, getD, length-set}
+use Rattle.replay.specs.Pieces.{keptBytes}
+use Rattle.replay.proofs.StreamLaws.{kept-none, kept-more, kept-full}
+use Rattle.replay.proofs.stream.keep.Statement.{statement}
+use Rattle.replay.proofs.stream.keep.Tie as tie
+
+abbrev Inv-loop : tie.InvT-loop
+Inv-loop before input end line₀ len₀ i₀ line len i =
+    (i ≤ end) × (len ≤ 81) × (length line ≡ 81) × (take len line ≡ take 81 (take len₀ line₀ ++ take i input))
+
+abbrev μ-loop : tie.MeasureT-loop
+μ-loop before input end line₀ len₀ i₀ line len i = end - i
+
+places : (c : tie.Start Inv-loop μ-loop) → length (c .args .begun) ≡ 81
+places c = c .good .0 .1 .0 .1
+
+loop-holds : tie.Need-loop-holds Inv-loop μ-loop
+loop-holds c = (omega arith, omega (arith, c .pre), places c, kept-none (c .args .begun) (c .args .before) (omega (arith, c .pre)))
+
+shared-slice-read-line : tie.Need-shared-slice-read-line Inv-loop μ-loop
+shared-slice-read-line c = omega (arith, c .before .before .loop-test .taken, c .before .before .before .before .pre)
+
+array-write-line : tie.Need-array-write-line Inv-loop μ-loop
+array-write-line c = c .before .if1 .taken
+
+add-len : tie.Need-add-len Inv-loop μ-loop
+add-len c = omega (arith, c .before .if1 .taken)
+
+add-i : tie.Need-add-i Inv-loop μ-loop
+add-i c = omega (arith, c .before .loop-test .taken)
+
+loop-less : tie.Need-loop-less Inv-loop μ-loop
+loop-less c = omega (arith, c .before .loop-test .taken)
+
+loop-again : tie.Need-loop-again Inv-loop μ-loop
+loop-again c =
+    let l = c .before .before in
+    let a = l .before .args in
+    let inv = l .loop .inv in
+    let inside : l .loop .i < length (a .input .now) = omega (arith, c .before .loop-test .taken, l .before .pre) in
+    ⊎-elim
+    (λ w.
+    rw (w .2, w .3) (
+      omega (arith, c .before .loop-test .taken),
+      omega (arith, w .0 .taken),
+      length-set (l .loop .line) (l .loop .len) (getD (a .input .now) (l .loop .i) 0) ∙ inv .2,
+      kept-more (take (a .before) (a .begun)) (a .input .now) (l .loop .line) (l .loop .len) (l .loop .i) inside (w .0 .taken) (inv .2) (inv .3),
+    ))
+    (λ w.
+    rw (w .1, w .2) (
+      omega (arith, c .before .loop-test .taken),
+      inv .1,
+      inv .2,
+      kept-full (take (a .before) (a .begun)) (a .input .now) (l .loop .line) (l .loop .len) (l .loop .i) inside (w .0 .left) (inv .2) (inv .3),
+    ))
+    (c .if1 .came)
+
+returns : tie.Need-returns Inv-loop μ-loop
+returns c =
+    let l = c .before in
+    let a = l .before .args in
+    let all : l .loop .i ≡ a .end = omega (arith, c .loop-test .left, l .loop .inv .0) in
+    (l .loop .inv .1, (l .loop .inv .2, l .loop .inv .3 ∙ ap (λ (k : ℕ). take 81 (take (a .before) (a .begun) ++ take k (a .input .now))) all))
+
+pub keep-spec : {M : Type 1} → statement M
+keep-spec = tie.close (tie.spec Inv-loop μ-loop loop-holds shared-slice-read-line array-write-line add-len add-i loop-less loop-again returns)

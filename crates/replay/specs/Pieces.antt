@@ -1,0 +1,117 @@
+-- The day in pieces: what has been read so far, and what each piece of the input makes the program write.
+use Prim.Native.Nat.{ℕ, _+_, _≤_, _<_}
+use mathlib.Core.Path.{_≡_}
+use mathlib.Core.Bool.{cond}
+use mathlib.Core.List.{List, [], _∷_, _++_}
+use lib.Dec.{ltb, eqb}
+use lib.ListN.{length, take, drop}
+use Rattle.model.specs.declared.state.Exchange.{Exchange}
+use Rattle.model.specs.State.{freshExchange}
+use Rattle.replay.specs.declared.stream.Day.{Day}
+use Rattle.replay.specs.declared.stream.Fed.{Fed}
+use Rattle.replay.specs.Lines.{lineOutcome, lineText}
+use Rattle.lines.specs.CallLines.{lineIn}
+use Rattle.model.specs.Run.{Reachable}
+use Rattle.replay.specs.Days.{header, dayOf, dayState, lastLine}
+
+-- ---- byte by byte
+
+-- the state, how many lines were answered, and the bytes of the line that has begun; 81 of them tell that it is too long
+pub record Stream : Type 0 where
+  pub exchange : Exchange
+  pub done : ℕ
+  pub line : List ℕ
+
+abbrev pub start : Stream
+start = record { exchange = freshExchange; done = 0; line = [] }
+
+abbrev pub keptBytes : ℕ
+keptBytes = 81
+
+-- the line ends
+unfoldable pub lineEnd : Stream → Stream
+lineEnd s = record { exchange = lineOutcome (s .exchange) (s .line) .exchange; done = s .done + 1; line = [] }
+
+abbrev pub lineMore : Stream → ℕ → Stream
+lineMore s b = record { exchange = s .exchange; done = s .done; line = take keptBytes (s .line ++ (b ∷ [])) }
+
+-- one byte; after the last line nothing is read
+unfoldable pub nextByte : Stream → ℕ → Stream
+nextByte s b = cond (ltb (s .done) lastLine) (cond (eqb b 10) (lineEnd s) (lineMore s b)) s
+
+unfoldable pub byteText : Stream → ℕ → List ℕ
+byteText s b = cond (ltb (s .done) lastLine) (cond (eqb b 10) (lineText (s .exchange) (s .done + 1) (s .line)) []) []
+
+-- a piece: where it leaves the stream, and what it makes the program write
+abbrev pub after : Stream → List ℕ → Stream
+after s [] = s
+after s (b ∷ bs) = after (nextByte s b) bs
+
+abbrev pub textOf : Stream → List ℕ → List ℕ
+textOf s [] = []
+textOf s (b ∷ bs) = byteText s b ++ textOf (nextByte s b) bs
+
+-- at the input's end: a line that has begun counts as if its byte 10 had come
+abbrev pub lastBytes : List ℕ → List ℕ
+lastBytes [] = []
+lastBytes (b ∷ bs) = 10 ∷ []
+
+abbrev pub endText : Stream → List ℕ
+endText s = textOf s (lastBytes (s .line))
+
+abbrev pub ended : Stream → Stream
+ended s = after s (lastBytes (s .line))
+
+-- what pieces make the program write, one after the other, and the input that they are
+abbrev pub writtenBy : Stream → List (List ℕ) → List ℕ
+writtenBy s [] = endText s
+writtenBy s (p ∷ ps) = textOf s p ++ writtenBy (after s p) ps
+
+abbrev pub afterAll : Stream → List (List ℕ) → Stream
+afterAll s [] = ended s
+afterAll s (p ∷ ps) = afterAll (after s p) ps
+
+abbrev pub joined : List (List ℕ) → List ℕ
+joined [] = []
+joined (p ∷ ps) = p ++ joined ps
+
+-- any cutting of the input gives the day's text, and leaves the day's state
+pub record CutAnywhere (ps : List (List ℕ)) : Type 0 where
+  pub text : header ++ writtenBy start ps ≡ dayOf (joined ps)
+  pub state : afterAll start ps .exchange ≡ dayState (joined ps)
+
+abbrev pub AnyCutting : Type 0
+AnyCutting = (ps : List (List ℕ)) → CutAnywhere ps
+
+-- a state that calls can leave stays one
+abbrev pub StaysReachable : Type 0
+StaysReachable = (s : Stream) → Reachable (s .exchange) → (bs : List ℕ) → Reachable (after s bs .exchange)
+
+-- ---- what feeding promises
+
+-- what the code keeps between two pieces
+abbrev pub streamOf : Day → Stream
+streamOf d = record { exchange = d .exchange; done = d .done; line = take (d .len) (d .line) }
+
+-- how many bytes of the input were taken; what these make the program write stands at the start of the buffer, whose other bytes are as they were
+pub record Advanced (d : Day) (input out out′ : List ℕ) (r : Fed) : Type 0 where
+  pub within : r .used ≤ length input
+  pub count : r .wrote ≡ length (textOf (streamOf d) (take (r .used) input))
+  pub fits : r .wrote ≤ length out
+  pub text : out′ ≡ textOf (streamOf d) (take (r .used) input) ++ drop (r .wrote) out
+  pub state : streamOf (r .day) ≡ after (streamOf d) (take (r .used) input)
+
+-- no answer line is longer
+abbrev pub longestAnswer : ℕ
+longestAnswer = 35
+
+-- the line that ends first
+abbrev pub firstLine : List ℕ → List ℕ
+firstLine input = lineIn input ++ (10 ∷ [])
+
+-- how much of the input is taken is free but for this: nothing is taken only where there is nothing, or where the answer to the line that ends first
+-- does not fit, as 21 has it; and where any answer line fits, something is taken
+pub record FedBy (d : Day) (input out out′ : List ℕ) (r : Fed) : Type 0 where
+  pub advanced : Advanced d input out out′ r
+  pub stops : r .used ≡ 0 → 0 < length input → length out < length (textOf (streamOf d) (firstLine input))
+  pub goes-on : 0 < length input → longestAnswer ≤ length out → 0 < r .used
