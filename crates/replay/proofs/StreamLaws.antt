@@ -224,6 +224,16 @@ line-inside bytes from h = omega (arith, line-within (drop from bytes), length-d
 pub front-more : (input : List ℕ) (i k : ℕ) → take (i + k) input ≡ take i input ++ take k (drop i input)
 front-more input i k = take-add i k input
 
+-- ---- pieces of an input fed one after the other: s is the stream after the bytes before from, and s′ after used bytes more
+
+pub next-piece : (s₀ s s′ : Stream) (input part : List ℕ) (from used : ℕ) → part ≡ drop from input → s ≡ after s₀ (take from input) → s′ ≡ after s (take used part)
+    → s′ ≡ after s₀ (take (from + used) input)
+next-piece s₀ s s′ input part from used p e f =
+    f
+    ∙ ap (λ (v : Stream). after v (take used part)) e
+    ∙ ap (λ (l : List ℕ). after (after s₀ (take from input)) (take used l)) p
+    ∙ sym (ap (after s₀) (front-more input from used) ∙ after-append s₀ (take from input) (take used (drop from input)))
+
 -- ---- states that calls can leave
 
 byte-reachable : (s : Stream) → Reachable (s .exchange) → (b : ℕ) → Reachable (nextByte s b .exchange)

@@ -4,6 +4,7 @@
 //! After each call it checks that no amount came up or went missing.
 
 use second::engine::bid_quote;
+use second::lines::LINE_MOST;
 use second::{read_call, Answer, Call, Exchange, Market, Phase, Place};
 use std::collections::BTreeMap;
 use std::io::{self, BufRead, BufReader, Write};
@@ -27,17 +28,40 @@ const CODES: [&[usize]; 11] = [
     &[0, 4, 8, 9, 11],
 ];
 
+/// Number of fields by kind.
+const FIELDS: [usize; 11] = [0, 3, 3, 6, 2, 5, 1, 2, 6, 2, 1];
+
 /// Every border that is counted, so that those not met show as 0.
 const BORDERS: &[&str] = &[
     "line: empty",
+    "line: 79 bytes",
     "line: 80 bytes",
     "line: 81 bytes",
+    "line: 82 bytes",
+    "line: 200 bytes",
+    "line: 100000 bytes",
     "line: above 81 bytes",
     "line: above 4096 bytes",
     "line: NUL",
     "line: CR at its end",
+    "line: letter",
+    "line: space",
+    "line: plus before a number",
+    "line: minus before a number",
+    "line: leading zero",
+    "line: empty field",
+    "line: comma at its start",
+    "line: comma at its end",
+    "line: value 4294967296",
+    "line: value of more than ten digits",
+    "line: too few fields",
+    "line: too many fields",
+    "line: kind 0",
+    "line: kind 11",
+    "line: kind 4294967295",
     "line: last without byte 10",
     "line: call followed by a bad byte",
+    "line: call with value 4294967295",
     "member 0 taken",
     "member 15 taken",
     "member 16 refused",
@@ -139,12 +163,19 @@ impl Counts {
 
     fn line(&mut self, line: &[u8], call: Option<Call>, ended: bool) {
         self.add_if(!ended, "line: last without byte 10");
+        let fields: Vec<&[u8]> = line.split(|&byte| byte == b',').collect();
         if call.is_some() {
+            let most = fields.contains(&&b"4294967295"[..]);
+            self.add_if(most, "line: call with value 4294967295");
             return;
         }
         self.add_if(line.is_empty(), "line: empty");
+        self.add_if(line.len() == 79, "line: 79 bytes");
         self.add_if(line.len() == 80, "line: 80 bytes");
         self.add_if(line.len() == 81, "line: 81 bytes");
+        self.add_if(line.len() == 82, "line: 82 bytes");
+        self.add_if(line.len() == 200, "line: 200 bytes");
+        self.add_if(line.len() == 100_000, "line: 100000 bytes");
         self.add_if(line.len() > 81, "line: above 81 bytes");
         self.add_if(line.len() > 4096, "line: above 4096 bytes");
         self.add_if(line.contains(&0), "line: NUL");
@@ -152,6 +183,32 @@ impl Counts {
         if let [before @ .., last] = line {
             let bad = !last.is_ascii_digit() && *last != b',';
             self.add_if(bad && read_call(before).is_some(), "line: call followed by a bad byte");
+        }
+        self.add_if(line.iter().any(u8::is_ascii_alphabetic), "line: letter");
+        self.add_if(line.contains(&b' '), "line: space");
+        self.add_if(signed(&fields, b'+'), "line: plus before a number");
+        self.add_if(signed(&fields, b'-'), "line: minus before a number");
+        // The others are counted where nothing else but form is wrong.
+        let plain = line.iter().all(|&byte| byte == b',' || byte.is_ascii_digit());
+        if !plain || line.is_empty() || line.len() > LINE_MOST {
+            return;
+        }
+        let zero = fields.iter().any(|field| field.len() > 1 && field[0] == b'0');
+        self.add_if(zero, "line: leading zero");
+        self.add_if(fields.contains(&&b""[..]), "line: empty field");
+        self.add_if(line.starts_with(b","), "line: comma at its start");
+        self.add_if(line.ends_with(b","), "line: comma at its end");
+        self.add_if(fields.contains(&&b"4294967296"[..]), "line: value 4294967296");
+        let digits = fields.iter().any(|field| field.len() > 10);
+        self.add_if(digits, "line: value of more than ten digits");
+        self.add_if(fields[0] == b"0", "line: kind 0");
+        self.add_if(fields[0] == b"11", "line: kind 11");
+        self.add_if(fields[0] == b"4294967295", "line: kind 4294967295");
+        let kind = (1..=10).find(|kind: &usize| fields[0] == kind.to_string().as_bytes());
+        if let Some(kind) = kind {
+            let count = fields.len() - 1;
+            self.add_if(count < FIELDS[kind], "line: too few fields");
+            self.add_if(count > FIELDS[kind], "line: too many fields");
         }
     }
 
@@ -403,6 +460,11 @@ impl Counts {
             }
         }
     }
+}
+
+/// Some field is a number with this sign before it.
+fn signed(fields: &[&[u8]], sign: u8) -> bool {
+    fields.iter().any(|field| field.len() > 1 && field[0] == sign && field[1].is_ascii_digit())
 }
 
 /// All that was deposited and not withdrawn is somewhere, and the marks of

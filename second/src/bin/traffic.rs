@@ -1,8 +1,10 @@
 //! Prints traffic for comparison runs: `traffic SEED LINES` prints LINES
 //! lines, the same ones for the same seed. About half of them are accepted
 //! calls that drive whole rounds in the three markets; the others are calls
-//! to be refused, for every kind and code, and lines that are no call. The
-//! exchange is worked along, so that each line can be aimed at its state.
+//! to be refused, for every kind and code, and lines that are no call, of
+//! every sort. The exchange is worked along, so that each line can be aimed
+//! at its state. `traffic SEED LINES FILE` prints traffic that is to follow
+//! the lines of a file.
 
 use second::engine::bid_quote;
 use second::lines::LINE_MOST;
@@ -54,6 +56,20 @@ const TOO_LARGE: [&str; 12] = [
     "18446744073709551617",
     "340282366920938463463374607431768211457",
 ];
+
+/// How many sorts of lines that are no call take turns.
+const SORTS: usize = 59;
+
+/// The fill of a line that is brought to a length.
+#[derive(Clone, Copy)]
+enum Fill {
+    Spaces,
+    Zeros,
+    Commas,
+    /// Zeros before the last number.
+    LeadingZeros,
+    Fields,
+}
 
 /// A small generator of numbers (splitmix64).
 struct Chance {
@@ -143,8 +159,13 @@ struct Traffic<W: Write> {
     left: u64,
     /// The last line has no byte 10.
     open_end: bool,
-    /// Block numbers jump near their end when this many lines are left.
+    /// Blocks of new rounds jump to `jump_to` when this many lines are left.
     jump_at: u64,
+    jump_to: u64,
+    /// The line of 100,000 bytes comes when this many lines are left.
+    long_at: u64,
+    /// The next sort of line that is no call.
+    sort: usize,
     season: Season,
     /// Seasons begun so far; they take turns.
     seasons: usize,
@@ -157,22 +178,32 @@ struct Traffic<W: Write> {
 }
 
 impl<W: Write> Traffic<W> {
-    fn new(seed: u64, lines: u64, output: W) -> Traffic<W> {
+    fn new(seed: u64, lines: u64, exchange: Exchange, output: W) -> Traffic<W> {
         let mut chance = Chance { state: seed };
         chance.next();
         let mut refusals = Vec::new();
         for (kind, codes) in REFUSALS.iter().enumerate() {
             refusals.extend(codes.iter().map(|&code| (kind, code)));
         }
+        // Where the run is long enough, every second seed ends near the last
+        // block number or at it.
+        let (jump_at, jump_to) = match seed % 4 {
+            0 if lines >= 5_000 => (200, MOST),
+            2 if lines >= 5_000 => (500, MOST - 200),
+            _ => (0, 0),
+        };
         Traffic {
             seasons: chance.below(6) as usize,
+            long_at: lines.saturating_sub(chance.below(10_000)),
+            sort: chance.below(SORTS as u64) as usize,
             chance,
             refusals,
-            exchange: Exchange::new(),
+            exchange,
             output,
             left: lines,
             open_end: seed % 3 == 1,
-            jump_at: if seed & 1 == 0 && lines >= 20_000 { 2_000 } else { 0 },
+            jump_at,
+            jump_to,
             season: Season::Usual,
             season_left: 1_000,
             markets: vec![1, 2, 3],
@@ -186,7 +217,11 @@ impl<W: Write> Traffic<W> {
             if self.season_left == 0 {
                 self.new_season();
             }
-            if self.chance.below(100) < 51 {
+            if self.left <= self.long_at {
+                self.long_at = 0;
+                let line = self.long_line();
+                self.put(&line);
+            } else if self.chance.below(100) < 51 {
                 self.right_step();
             } else {
                 self.wrong_step();
@@ -508,7 +543,7 @@ impl<W: Write> Traffic<W> {
                 }
                 let mut block = self.last() + self.some_blocks();
                 if self.left <= self.jump_at {
-                    block = block.max(MOST - 200);
+                    block = block.max(self.jump_to);
                 } else if self.chance.once_in(50) {
                     block = (block + self.chance.any_size(100_000)).min(3_000_000_000);
                     block = block.max(self.last());
@@ -842,7 +877,7 @@ impl<W: Write> Traffic<W> {
     fn wrong_step(&mut self) {
         match self.chance.below(100) {
             0..=19 => {
-                let line = self.no_call();
+                let line = if self.chance.once_in(2) { self.faulty() } else { self.no_call() };
                 self.put(&line);
             }
             20..=32 => {
@@ -1346,6 +1381,92 @@ impl<W: Write> Traffic<W> {
 
     // Lines that are no call.
 
+    /// A line of 100,000 bytes that begins or ends with a call.
+    fn long_line(&mut self) -> Vec<u8> {
+        let kind = self.chance.between(1, 10) as usize;
+        let text = self.start(kind).text();
+        if self.chance.once_in(2) {
+            return padded(&mut self.chance, text, 100_000);
+        }
+        let mut line = vec![self.chance.pick(b"0 ,x"); 100_000 - text.len()];
+        line.extend_from_slice(&text);
+        line
+    }
+
+    /// A call with one fault. The sorts of faults take turns, so that each
+    /// comes up in a few hundred lines of this kind.
+    fn faulty(&mut self) -> Vec<u8> {
+        let sort = self.sort;
+        self.sort = (sort + 1) % SORTS;
+        let kind = self.chance.between(1, 10) as usize;
+        let draft = self.start(kind);
+        let mut numbers = draft.numbers();
+        let mut text = draft.text();
+        let c = &mut self.chance;
+        let last = numbers.len() - 1;
+        let place = c.below(numbers.len() as u64) as usize;
+        let field = c.between(1, last as u64) as usize;
+        let value: u128 = numbers[place].parse().unwrap_or(0);
+        let end = text.len();
+        let inside = c.between(1, end as u64 - 1) as usize;
+        let letter = c.pick(b"aAexXzZ");
+        match sort {
+            0 => return Vec::new(),
+            // Leading zeros.
+            1 => numbers[0].insert(0, '0'),
+            2 => numbers[1].insert(0, '0'),
+            3 => numbers[last].insert(0, '0'),
+            4 => numbers[field] = "00".to_string(),
+            // Empty fields, and commas at the ends.
+            5 => numbers[0].clear(),
+            6 => numbers[1].clear(),
+            7 => numbers[last].clear(),
+            8 => text.insert(0, b','),
+            9 => text.push(b','),
+            10 => numbers.insert(field, String::new()),
+            // Values that are too large, some with the right low bits.
+            11 => numbers[0] = "4294967296".to_string(),
+            12 => numbers[field] = "4294967296".to_string(),
+            13 => numbers[last] = "4294967296".to_string(),
+            14 => numbers[place] = (value + (1 << 32)).to_string(),
+            15 => numbers[place] = (value + (1 << 64)).to_string(),
+            16 => numbers[place] += &"0".repeat(c.between(11, 50) as usize),
+            // Lengths.
+            17..=21 => text = filled(text, [79, 80, 81, 82, 200][sort - 17], Fill::LeadingZeros),
+            22..=26 => text = filled(text, [79, 80, 81, 82, 200][sort - 22], Fill::Spaces),
+            27..=31 => text = padded(c, text, [79, 80, 81, 82, 200][sort - 27]),
+            32 => {
+                let fill = c.pick(b"0 ,x");
+                let len = c.pick(&[80, 81]);
+                text.splice(0..0, vec![fill; len]);
+            }
+            // Bytes that are neither digit nor comma: at the start, inside, at the end.
+            33..=35 => text.insert([0, inside, end][sort - 33], b'\r'),
+            36..=38 => text.insert([0, inside, end][sort - 36], 0),
+            39..=41 => text.insert([0, inside, end][sort - 39], letter),
+            42..=44 => text.insert([0, inside, end][sort - 42], b' '),
+            45 => numbers[place].insert(0, '+'),
+            46 => numbers[place].insert(0, '-'),
+            47 => numbers[field] = "-0".to_string(),
+            // Bytes beside the digits, the comma and byte 10; high bits.
+            48 => text[inside] = c.pick(b"/:+-"),
+            49 => text.push(c.pick(b"\x09\x0b\x8a")),
+            50 => text[inside] |= 0x80,
+            // Wrong numbers of fields.
+            51 => numbers.truncate(last),
+            52 => numbers.truncate(1),
+            53 => numbers.push("0".to_string()),
+            54 => numbers.extend(vec!["1".to_string(); 6]),
+            // Unknown kinds.
+            _ => numbers[0] = ["0", "11", "12", "4294967295"][sort - 55].to_string(),
+        }
+        // The fault is in the text or in the numbers.
+        if text != draft.text() {
+            return text;
+        }
+        numbers.join(",").into_bytes()
+    }
+
     fn no_call(&mut self) -> Vec<u8> {
         let kind = self.chance.between(1, 10) as usize;
         let draft = self.start(kind);
@@ -1462,7 +1583,7 @@ impl<W: Write> Traffic<W> {
                 // Very long, but seldom.
                 if c.once_in(20) {
                     let len =
-                        c.pick(&[4_095, 4_096, 4_097, 8_192, 65_535, 65_536, 70_000, 300_000]);
+                        c.pick(&[4_095, 4_096, 4_097, 8_192, 65_535, 65_536, 100_000, 300_000]);
                     return padded(c, text, len);
                 }
                 numbers.insert(place, String::new());
@@ -1497,18 +1618,23 @@ fn any_byte(chance: &mut Chance) -> u8 {
 }
 
 /// A call's text brought to a length that no call has.
-fn padded(chance: &mut Chance, mut text: Vec<u8>, len: usize) -> Vec<u8> {
-    match chance.below(5) {
-        0 => text.resize(len, b' '),
-        1 => text.resize(len, b'0'),
-        2 => text.resize(len, b','),
-        3 => {
-            // Leading zeros in the last field.
+fn padded(chance: &mut Chance, text: Vec<u8>, len: usize) -> Vec<u8> {
+    use Fill::*;
+    let fill = chance.pick(&[Spaces, Zeros, Commas, LeadingZeros, Fields]);
+    filled(text, len, fill)
+}
+
+fn filled(mut text: Vec<u8>, len: usize, fill: Fill) -> Vec<u8> {
+    match fill {
+        Fill::Spaces => text.resize(len, b' '),
+        Fill::Zeros => text.resize(len, b'0'),
+        Fill::Commas => text.resize(len, b','),
+        Fill::LeadingZeros => {
             let comma = text.iter().rposition(|&byte| byte == b',').unwrap_or(0);
             let zeros = vec![b'0'; len.saturating_sub(text.len())];
             text.splice(comma + 1..comma + 1, zeros);
         }
-        _ => {
+        Fill::Fields => {
             while text.len() < len {
                 text.extend_from_slice(b",0");
             }
@@ -1519,13 +1645,29 @@ fn padded(chance: &mut Chance, mut text: Vec<u8>, len: usize) -> Vec<u8> {
 }
 
 fn main() -> ExitCode {
-    let numbers: Vec<Option<u64>> = std::env::args().skip(1).map(|a| a.parse().ok()).collect();
-    let &[Some(seed), Some(lines)] = &numbers[..] else {
-        let _ = writeln!(io::stderr(), "use: traffic SEED LINES");
+    let words: Vec<String> = std::env::args().skip(1).collect();
+    let numbers: Vec<Option<u64>> = words.iter().take(2).map(|word| word.parse().ok()).collect();
+    let (&[Some(seed), Some(lines)], true) = (&numbers[..], words.len() <= 3) else {
+        let _ = writeln!(io::stderr(), "use: traffic SEED LINES [FILE]");
         return ExitCode::FAILURE;
     };
+    let mut exchange = Exchange::new();
+    if let Some(file) = words.get(2) {
+        match std::fs::read(file) {
+            Ok(bytes) => {
+                let lines = bytes.split(|&byte| byte == b'\n');
+                for call in lines.filter_map(read_call) {
+                    exchange.call(call);
+                }
+            }
+            Err(error) => {
+                let _ = writeln!(io::stderr(), "cannot read {file}: {error}");
+                return ExitCode::FAILURE;
+            }
+        }
+    }
     let output = BufWriter::with_capacity(1 << 20, io::stdout());
-    match Traffic::new(seed, lines, output).run() {
+    match Traffic::new(seed, lines, exchange, output).run() {
         Ok(()) => ExitCode::SUCCESS,
         Err(error) => {
             let _ = writeln!(io::stderr(), "cannot write: {error}");
