@@ -4,15 +4,15 @@ ghost use mathlib.Core.Bool.{true};
 ghost use Prim.Native.Nat.{_≤_};
 ghost use lib.ListN.{length};
 ghost use Rattle.model.specs.Run.{Reachable};
-ghost use Rattle.replay.specs.Pieces.{streamOf, after};
+ghost use Rattle.stream.specs.Pieces.{streamOf, after};
 use libc::STDERR_FILENO;
 use libc::STDIN_FILENO;
 use libc::STDOUT_FILENO;
-use replay::stream::Day;
-use replay::stream::feed;
-use replay::stream::finish;
-use replay::stream::fresh_day;
-use replay::stream::header;
+use stream::Day;
+use stream::feed;
+use stream::finish;
+use stream::fresh_day;
+use stream::header;
 
 const LAST_LINE: u32 = 4_294_967_295;
 

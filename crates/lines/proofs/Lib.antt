@@ -1,3 +1,4 @@
 pub mod AnswerLines
 pub mod CallLaws
+pub mod KeptLaws
 pub mod RoundTrip

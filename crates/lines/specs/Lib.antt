@@ -1,2 +1,3 @@
 pub mod CallLines
 pub mod CallText
+pub mod Kept

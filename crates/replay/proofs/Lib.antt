@@ -1,4 +1,1 @@
 pub mod LineRun
-pub mod StreamLaws
-pub mod FeedLaws
-pub mod DayText

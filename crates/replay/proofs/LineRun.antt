@@ -30,6 +30,9 @@ use Rattle.model.proofs.WholeRun.{whole-run}
 use Rattle.lines.specs.declared.call.Reading.{Reading}
 use Rattle.lines.specs.declared.call.Reading.the-variants.{Read, NoCall}
 use Rattle.lines.specs.CallLines.{readingOf}
+use Rattle.lines.specs.CallText.{lineOfCall}
+use Rattle.lines.proofs.RoundTrip.{call-round}
+use native.Mathlib.Omega.{arith}
 use Rattle.replay.specs.declared.line.Taken.{Taken}
 use Rattle.replay.specs.Lines.{outcomeOf, lineOutcome, lineText, LineRequest, lineRequestOf, takenOf, stateAfterLines, eventsOfLines, WholeOfLines, LinesReachable, WholeRunOfLines}
 
@@ -174,7 +177,7 @@ abbrev requestsIn : List LineRequest → List Request
 requestsIn [] = []
 requestsIn (q ∷ qs) = requested (readingOf (q .line)) q (requestsIn qs)
 
-same-state : (x : Exchange) (qs : List LineRequest) → stateAfter requestOf x (requestsIn qs) ≡ stateAfterLines x qs
+same-state : (x : Exchange) (qs : List LineRequest) → stateAfter requestOf x (requestsIn qs) ≡ stateAfterLines lineRequestOf x qs
 unfolding stateAfter stateAfterLines
 same-state x [] = refl
 same-state x (q ∷ qs) =
@@ -188,7 +191,7 @@ same-state x (q ∷ qs) =
     (ap (λ (v : Exchange). stateAfter requestOf v (requestsIn qs)) (sym (line-none x q e))
     ∙ same-state (lineRequestOf x q .exchange) qs))
 
-same-events : (x : Exchange) (qs : List LineRequest) → eventsOf requestOf x (requestsIn qs) ≡ eventsOfLines x qs
+same-events : (x : Exchange) (qs : List LineRequest) → eventsOf requestOf x (requestsIn qs) ≡ eventsOfLines lineRequestOf x qs
 unfolding eventsOf eventsOfLines
 same-events x [] = refl
 same-events x (q ∷ qs) =
@@ -204,28 +207,46 @@ same-events x (q ∷ qs) =
 
 -- ---- the statement
 
--- its clauses on requests, said of lines
-of-lines : (x : Exchange) (y : History) → Whole requestOf x y → WholeOfLines x y
+-- a refused line leaves the state
+line-refused : (x : Exchange) (y : History) → Whole requestOf x y → (q : LineRequest) (why : Refusal) → lineRequestOf x q .answer ≡ Refused why → lineRequestOf x q .exchange ≡ x
+line-refused x y w q why r =
+    by-reading (readingOf (q .line))
+    (λ c e.
+    let s = line-call x q c e in
+    ap (λ (o : Outcome). o .exchange) s ∙ w .refused-stays (asRequest q c) why (sym (ap (λ (o : Outcome). o .answer) s) ∙ r))
+    (λ e. line-none x q e)
+
+of-lines : (x : Exchange) (y : History) → Whole requestOf x y → WholeOfLines lineRequestOf x y
 of-lines x y w =
     record {
-      whole = w;
-      refused-stays =
-          λ q why r.
-          by-reading (readingOf (q .line))
-          (λ c e.
-          let s = line-call x q c e in
-          ap (λ (o : Outcome). o .exchange) s ∙ w .refused-stays (asRequest q c) why (sym (ap (λ (o : Outcome). o .answer) s) ∙ r))
-          (λ e. line-none x q e);
-      settled-pays =
-          λ k member market side limit o b t q e room.
-          subst (PaysOut x k (orderWith member market side limit o) (sharePaid o (P b side) (T b side)) (shareGot o (G b side) (T b side)))
-          (sym (line-call x q (Claim k) e))
-          (w .settled-pays k member market side limit o b t .1 (q .number) (q .room) room);
+      whole =
+          record {
+            conserved = w .conserved;
+            supplied = w .supplied;
+            accounts = w .accounts;
+            tickets-are = w .tickets-are;
+            places-are = w .places-are;
+            solvent = w .solvent;
+            refused-stays = λ q why r. line-refused x y w (record { number = q .line; room = q .room; line = lineOfCall (q .call) }) why r;
+            settled-pays =
+                λ k member market side limit o b t. (
+                  w .settled-pays k member market side limit o b t .0,
+                  λ line room fits.
+                      subst (PaysOut x k (orderWith member market side limit o) (sharePaid o (P b side) (T b side)) (shareGot o (G b side) (T b side)))
+                      (sym (line-call x (record { number = line; room = room; line = lineOfCall (Claim k) }) (Claim k)
+                      (call-round (Claim k) (omega arith, (omega (arith, t .ticket-range), tt)))))
+                      (w .settled-pays k member market side limit o b t .1 line room fits),
+                );
+            residue-is = w .residue-is;
+            ended-well = w .ended-well;
+            limits = w .limits;
+          };
+      others-stay = λ q e. line-none x q e;
     }
 
 pub whole-run-of-lines : WholeRunOfLines
 whole-run-of-lines qs =
-    subst₂ (λ (x : Exchange) (es : List Event). WholeOfLines x (historyOf es))
+    subst₂ (λ (x : Exchange) (es : List Event). WholeOfLines lineRequestOf x (historyOf es))
     (same-state freshExchange qs)
     (same-events freshExchange qs)
     (of-lines _ _ (whole-run (requestsIn qs)))

@@ -1,28 +1,24 @@
 -- A line taken, and a list of lines: document 01's "A whole run" said of lines.
-use Prim.Native.Nat.{ℕ, _≤_}
+use Prim.Native.Nat.{ℕ}
 use mathlib.Core.Path.{_≡_}
 use mathlib.Core.Bool.{cond}
 use mathlib.Core.List.{List, [], _∷_}
 use lib.Dec.{ltb}
 use lib.ListN.{length}
-use Rattle.pricing.specs.declared.Side.{Side}
-use Rattle.pricing.specs.Prices.{sharePaid, shareGot}
 use Rattle.model.specs.declared.state.Exchange.{Exchange}
-use Rattle.model.specs.declared.call.Call.the-variants.{Claim}
 use Rattle.model.specs.declared.answer.Answer.{Answer}
-use Rattle.model.specs.declared.answer.Answer.the-variants.{Accepted, Refused}
 use Rattle.model.specs.declared.answer.Outcome.{Outcome}
-use Rattle.model.specs.declared.answer.Refusal.{Refusal}
 use Rattle.model.specs.declared.answer.Refusal.the-variants.{MalformedLine}
 use Rattle.model.specs.State.{freshExchange}
 use Rattle.model.specs.Answers.{answerLine}
 use Rattle.model.specs.Calls.{refuse}
-use Rattle.model.specs.Run.{Reachable, stepOf, fitted, requestOf, Event}
-use Rattle.model.specs.History.{RoundLog, History, historyOf, T, P, G}
-use Rattle.model.specs.WholeRun.{Whole, SettledTicket, PaysOut, orderWith}
+use Rattle.model.specs.Run.{Reachable, stepOf, Engine, fitted, Event}
+use Rattle.model.specs.History.{History, historyOf}
+use Rattle.model.specs.WholeRun.{Whole}
 use Rattle.lines.specs.declared.call.Reading.{Reading}
 use Rattle.lines.specs.declared.call.Reading.the-variants.{Read, NoCall}
 use Rattle.lines.specs.CallLines.{readingOf}
+use Rattle.lines.specs.CallText.{lineOfCall}
 use Rattle.replay.specs.declared.line.Taken.{Taken}
 
 -- ---- one line
@@ -45,8 +41,12 @@ pub record LineRequest : Type 0 where
   pub room : ℕ
   pub line : List ℕ
 
+-- an engine takes a line in a state
+abbrev pub LineEngine : Type 0
+LineEngine = Exchange → LineRequest → Outcome
+
 -- 21: "It goes before every other code; nothing is written or moved"
-unfoldable pub lineRequestOf : Exchange → LineRequest → Outcome
+unfoldable pub lineRequestOf : LineEngine
 lineRequestOf x q = fitted x (q .number) (q .room) (lineOutcome x (q .line))
 
 -- the outcome, and how many bytes of the answer line were written: all, or none where there is too little room
@@ -61,37 +61,39 @@ takenOf x number line room =
 
 -- ---- a list of lines, each in the state that the line before it left
 
-unfoldable pub stateAfterLines : Exchange → List LineRequest → Exchange
-stateAfterLines x [] = x
-stateAfterLines x (q ∷ qs) = stateAfterLines (lineRequestOf x q .exchange) qs
+unfoldable pub stateAfterLines : LineEngine → Exchange → List LineRequest → Exchange
+stateAfterLines g x [] = x
+stateAfterLines g x (q ∷ qs) = stateAfterLines g (g x q .exchange) qs
 
 -- what a line tells: its call with the answer; a line that is no call tells nothing
-abbrev pub told : Reading → Answer → List Event → List Event
-told NoCall a es = es
-told (Read c) a es = record { call = c; answer = a } ∷ es
+abbrev pub tells : Reading → Answer → List Event → List Event
+tells NoCall a es = es
+tells (Read c) a es = record { call = c; answer = a } ∷ es
 
-unfoldable pub eventsOfLines : Exchange → List LineRequest → List Event
-eventsOfLines x [] = []
-eventsOfLines x (q ∷ qs) = told (readingOf (q .line)) (lineRequestOf x q .answer) (eventsOfLines (lineRequestOf x q .exchange) qs)
+unfoldable pub eventsOfLines : LineEngine → Exchange → List LineRequest → List Event
+eventsOfLines g x [] = []
+eventsOfLines g x (q ∷ qs) = tells (readingOf (q .line)) (g x q .answer) (eventsOfLines g (g x q .exchange) qs)
 
 -- ---- the statement
 
--- after a list of lines: the whole-run statement of its calls, and its clauses on requests said of lines
-pub record WholeOfLines (x : Exchange) (y : History) : Type 0 where
-  pub whole : Whole requestOf x y
-  -- a line that is refused leaves the state
-  pub refused-stays : (q : LineRequest) (why : Refusal) → lineRequestOf x q .answer ≡ Refused why → lineRequestOf x q .exchange ≡ x
-  -- any line that is the claim of a settled ticket, with room for its answer, is accepted and pays the full share
-  pub settled-pays :
-      (k member market : ℕ) (side : Side) (limit o : ℕ) (b : RoundLog) → SettledTicket y k member market side limit o b
-      → (q : LineRequest) → readingOf (q .line) ≡ Read (Claim k)
-      → length (answerLine (q .number) (Accepted (sharePaid o (P b side) (T b side)) (shareGot o (G b side) (T b side)))) ≤ q .room
-      → PaysOut x k (orderWith member market side limit o) (sharePaid o (P b side) (T b side)) (shareGot o (G b side) (T b side)) (lineRequestOf x q)
+-- an engine of lines takes a call as the line that the call is written as; no other line is read as that call (`line-round` of lines/proofs)
+abbrev pub byLines : LineEngine → Engine
+byLines g x q = g x (record { number = q .line; room = q .room; line = lineOfCall (q .call) })
+
+-- after a list of lines: the whole-run statement, and that a line which is no call leaves the state
+pub record WholeOfLines (g : LineEngine) (x : Exchange) (y : History) : Type 0 where
+  pub whole : Whole (byLines g) x y
+  pub others-stay : (q : LineRequest) → readingOf (q .line) ≡ NoCall → g x q .exchange ≡ x
+
+-- for every list of lines with their numbers and rooms, of any engine
+abbrev pub WholeRunOfLinesBy : LineEngine → Type 0
+WholeRunOfLinesBy g =
+    (qs : List LineRequest) → WholeOfLines g (stateAfterLines g freshExchange qs) (historyOf (eventsOfLines g freshExchange qs))
+
+-- and of the model's
+abbrev pub WholeRunOfLines : Type 0
+WholeRunOfLines = WholeRunOfLinesBy lineRequestOf
 
 -- a state that calls can leave stays one
 abbrev pub LinesReachable : Type 0
 LinesReachable = (x : Exchange) → Reachable x → (q : LineRequest) → Reachable (lineRequestOf x q .exchange)
-
--- for every list of lines with their numbers and rooms
-abbrev pub WholeRunOfLines : Type 0
-WholeRunOfLines = (qs : List LineRequest) → WholeOfLines (stateAfterLines freshExchange qs) (historyOf (eventsOfLines freshExchange qs))

@@ -1,3 +1,2 @@
-// A recorded day replayed: one line taken, and a stream of bytes fed in pieces.
+// A recorded day, line by line: one line taken, the state by value.
 pub mod line;
-pub mod stream;

@@ -5,10 +5,9 @@ use Prim.Native.Nat.{ℕ, _+_, _-_, _≤_, _<_}
 use native.Mathlib.Omega.{arith}
 use borrow.Author.Needs.{needs}
 use lib.ListN.{length, take, set, getD, length-set}
-use Rattle.replay.specs.Pieces.{keptBytes}
-use Rattle.replay.proofs.StreamLaws.{kept-none, kept-more, kept-full}
-use Rattle.replay.proofs.stream.keep.Statement.{statement}
-use Rattle.replay.proofs.stream.keep.Tie as tie
+use Rattle.lines.proofs.KeptLaws.{kept-none, kept-more, kept-full}
+use Rattle.lines.proofs.kept.keep.Statement.{statement}
+use Rattle.lines.proofs.kept.keep.Tie as tie
 
 abbrev Inv-loop : tie.InvT-loop
 Inv-loop before input end line₀ len₀ i₀ line len i =

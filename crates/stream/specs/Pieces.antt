@@ -7,12 +7,13 @@ use lib.Dec.{ltb, eqb}
 use lib.ListN.{length, take, drop}
 use Rattle.model.specs.declared.state.Exchange.{Exchange}
 use Rattle.model.specs.State.{freshExchange}
-use Rattle.replay.specs.declared.stream.Day.{Day}
-use Rattle.replay.specs.declared.stream.Fed.{Fed}
+use Rattle.stream.specs.declared.Day.{Day}
+use Rattle.stream.specs.declared.Fed.{Fed}
 use Rattle.replay.specs.Lines.{lineOutcome, lineText}
 use Rattle.lines.specs.CallLines.{lineIn}
+use Rattle.lines.specs.Kept.{keptBytes}
 use Rattle.model.specs.Run.{Reachable}
-use Rattle.replay.specs.Days.{header, dayOf, dayState, lastLine}
+use Rattle.stream.specs.Days.{header, dayOf, dayState, lastLine}
 
 -- ---- byte by byte
 
@@ -24,9 +25,6 @@ pub record Stream : Type 0 where
 
 abbrev pub start : Stream
 start = record { exchange = freshExchange; done = 0; line = [] }
-
-abbrev pub keptBytes : ℕ
-keptBytes = 81
 
 -- the line ends
 unfoldable pub lineEnd : Stream → Stream

@@ -1,9 +1,9 @@
 use native.Mathlib.Omega.{arith}
 use native.Mathlib.Nat.{pos-of-ne-zero}
 use borrow.Author.Needs.{needs}
-use Rattle.replay.proofs.FeedLaws.{untouched, fed-some, fed-same-out, fed-over}
-use Rattle.replay.proofs.stream.feed.Statement.{statement}
-use Rattle.replay.proofs.stream.feed.Tie as tie
+use Rattle.stream.proofs.FeedLaws.{untouched, fed-some, fed-same-out, fed-over}
+use Rattle.stream.proofs.feed.Statement.{statement}
+use Rattle.stream.proofs.feed.Tie as tie
 
 returns : tie.Need-returns
 returns c = fed-over _ _ _ (c .if1 .taken)

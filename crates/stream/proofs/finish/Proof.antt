@@ -4,10 +4,10 @@ use native.Mathlib.Omega.{arith}
 use native.Mathlib.Nat.{pos-of-ne-zero}
 use borrow.Author.Needs.{needs}
 use lib.ListN.{length, length-map, length-take}
-use Rattle.replay.specs.Pieces.{streamOf}
-use Rattle.replay.proofs.FeedLaws.{none-begun, some-begun, fed-same-bytes}
-use Rattle.replay.proofs.stream.finish.Statement.{statement}
-use Rattle.replay.proofs.stream.finish.Tie as tie
+use Rattle.stream.specs.Pieces.{streamOf}
+use Rattle.stream.proofs.FeedLaws.{none-begun, some-begun, fed-same-bytes}
+use Rattle.stream.proofs.finish.Statement.{statement}
+use Rattle.stream.proofs.finish.Tie as tie
 
 returns : tie.Need-returns
 returns c = none-begun _ _ (c .if1 .taken)

@@ -10,12 +10,12 @@ use Rattle.decimal.proofs.Put.{part-all, put-part, count-fits}
 use Rattle.model.specs.Run.{Reachable}
 use Rattle.model.specs.declared.answer.Outcome.{Outcome}
 use Rattle.lines.specs.CallLines.{lineIn}
 use Rattle.replay.specs.Lines.{lineOutcome, lineText}
 use Rattle.replay.proofs.LineRun.{told, text-is, reachable-line}
-use Rattle.replay.proofs.StreamLaws.{begun, line-end-is, line-read-is, line-inside}
-use Rattle.replay.proofs.FeedLaws.{SoFar, so-far-start, so-far-length, so-far-line, advanced, unbegun}
-use Rattle.replay.proofs.stream.whole_lines.Statement.{statement}
-use Rattle.replay.proofs.stream.whole_lines.Tie as tie
+use Rattle.stream.proofs.StreamLaws.{begun, line-end-is, line-read-is, line-inside}
+use Rattle.stream.proofs.FeedLaws.{SoFar, so-far-start, so-far-length, so-far-line, advanced, unbegun}
+use Rattle.stream.proofs.whole_lines.Statement.{statement}
+use Rattle.stream.proofs.whole_lines.Tie as tie
 
 abbrev Inv-loop : tie.InvT-loop
 Inv-loop d input out₀ x₀ done₀ at₀ i₀ out x done at i =

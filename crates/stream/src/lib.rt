@@ -4,13 +4,15 @@ ghost use mathlib.Core.List.{[], _++_};
 ghost use Prim.Native.Nat.{_≤_, _<_};
 ghost use lib.ListN.{length, take};
 ghost use Rattle.model.specs.Run.{Reachable};
-ghost use Rattle.replay.specs.Days.{header as Days·header, lastLine};
-ghost use Rattle.replay.specs.Pieces.{streamOf, start, keptBytes, Advanced, FedBy, lastBytes};
-use crate::line::outcome_of;
-use crate::line::take_line;
+ghost use Rattle.stream.specs.Days.{header as Days·header, lastLine};
+ghost use Rattle.stream.specs.Pieces.{streamOf, start, Advanced, FedBy, lastBytes};
+use replay::line::outcome_of;
+use replay::line::take_line;
 use lines::answer::write_answer;
 use lines::call::line_end;
 use lines::call::read_line;
+use lines::kept::KEPT_BYTES;
+use lines::kept::keep;
 use model::state::Exchange;
 use model::state::fresh;
 
@@ -30,17 +32,9 @@ pub struct Fed {
     pub wrote: usize,
 }
 
-// A line that has begun: its first bytes, at most 81.
-struct Kept {
-    len: usize,
-    line: [u8; 81],
-}
-
 const LAST_LINE: u32 = 4_294_967_295;
 
 const LONGEST_ANSWER: usize = 35;
-
-const KEPT_BYTES: usize = 81;
 
 // The day's first line.
 pub fn header() -> [u8; 23]
@@ -61,27 +55,6 @@ pub fn fresh_day() -> Day
         len: 0,
         line: [0; 81],
     }
-}
-
-// The line begun, with the first end bytes of the input after it.
-fn keep(begun: [u8; 81], before: usize, input: &[u8], end: usize) -> Kept
-    requires { ⌜ before ≤ keptBytes ⌝ }
-    requires { ⌜ end ≤ length (now input) ⌝ }
-    ensures { λ r. ⌜ r .len ≤ keptBytes ⌝ }
-    ensures { λ r. ⌜ length (r .line) ≡ keptBytes ⌝ }
-    ensures { λ r. ⌜ take (r .len) (r .line) ≡ take keptBytes (take before begun ++ take end (now (input .entry))) ⌝ }
-{
-    let mut line = begun;
-    let mut len = before;
-    let mut i: usize = 0;
-    while i < end {
-        if len < KEPT_BYTES {
-            line[len] = input[i];
-            len = len + 1;
-        }
-        i = i + 1;
-    }
-    Kept { len, line }
 }
 
 // Takes the lines that lie whole in the input, as many as out has room for. For feed: it asks that no line has begun.

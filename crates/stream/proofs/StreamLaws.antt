@@ -17,13 +17,15 @@ use Rattle.model.specs.Run.{Reachable, fitted}
 use Rattle.fields.specs.Grammar.{lineNumbers}
 use Rattle.fields.proofs.Scan.{by-test, by-order}
 use Rattle.lines.specs.CallLines.{readingOf, lineIn, lineAt}
+use Rattle.lines.specs.Kept.{keptBytes}
+use Rattle.lines.proofs.KeptLaws.{kept}
 use Rattle.lines.specs.declared.call.LineAt.{LineAt}
 use Rattle.lines.specs.declared.call.Reading.{Reading}
 use Rattle.lines.specs.declared.call.Reading.the-variants.{NoCall}
 use Rattle.replay.specs.Lines.{outcomeOf, lineOutcome, lineText, lineRequestOf, takenOf}
-use Rattle.replay.specs.Days.{lastLine}
-use Rattle.replay.specs.Pieces.{Stream, keptBytes, lineEnd, lineMore, nextByte, byteText, after, textOf, StaysReachable}
+use Rattle.stream.specs.Days.{lastLine}
+use Rattle.stream.specs.Pieces.{Stream, lineEnd, lineMore, nextByte, byteText, after, textOf, StaysReachable}
 use Rattle.replay.proofs.LineRun.{reachable-line}
 
 -- ---- pieces put together
 
@@ -37,44 +39,6 @@ text-append s (x ∷ a) b =
     ap (λ (t : List ℕ). byteText s x ++ t) (text-append (nextByte s x) a b) ∙ sym (append-assoc (byteText s x) (textOf (nextByte s x) a) _)
 
 -- ---- the line that is kept: 81 bytes do what the whole line does
-
-pub kept : (n : ℕ) (p q : List ℕ) → take n (take n p ++ q) ≡ take n (p ++ q)
-kept zero p q = refl
-kept (suc n) [] q = refl
-kept (suc n) (x ∷ p) q = ap (λ (l : List ℕ). x ∷ l) (kept n p q)
-
--- a line kept in places of its own, with bytes of the input after it
-pub kept-none : (line : List ℕ) (len : ℕ) → len ≤ keptBytes → take len line ≡ take keptBytes (take len line ++ [])
-kept-none line len h = sym (ap (take 81) (append-nil (take len line)) ∙ take-all 81 (take len line) (omega (arith, length-take len line)))
-
-module _ (p input line : List ℕ) (len i : ℕ) (inside : i < length input) where
-  one-more : p ++ take (i + 1) input ≡ (p ++ take i input) ++ (getD input i 0 ∷ [])
-  one-more = ap (λ (l : List ℕ). p ++ l) (rw add-one (take-suc input i 0 inside)) ∙ sym (append-assoc p (take i input) (getD input i 0 ∷ []))
-
-  joins : take len line ≡ take keptBytes (p ++ take i input)
-      → take keptBytes (take len line ++ (getD input i 0 ∷ [])) ≡ take keptBytes (p ++ take (i + 1) input)
-  joins e =
-      ap (λ (l : List ℕ). take 81 (l ++ (getD input i 0 ∷ []))) e
-      ∙ kept keptBytes (p ++ take i input) (getD input i 0 ∷ [])
-      ∙ sym (ap (take 81) one-more)
-
-  pub kept-more : len < keptBytes → length line ≡ keptBytes → take len line ≡ take keptBytes (p ++ take i input)
-      → take (len + 1) (set line len (getD input i 0)) ≡ take keptBytes (p ++ take (i + 1) input)
-  kept-more h e k =
-      rw add-one (take-suc-set line len (getD input i 0) (omega (arith, e)))
-      ∙ sym (take-all 81 (take len line ++ (getD input i 0 ∷ []))
-      (omega (arith, length-append (take len line) (getD input i 0 ∷ []), length-take-le len line (omega (arith, e)))))
-      ∙ joins k
-
-  pub kept-full : keptBytes ≤ len → length line ≡ keptBytes → take len line ≡ take keptBytes (p ++ take i input)
-      → take len line ≡ take keptBytes (p ++ take (i + 1) input)
-  kept-full h e k =
-      let whole : take len line ≡ line = take-all len line (omega (arith, e)) in
-      whole
-      ∙ sym (ap (λ (l : List ℕ). take 81 (l ++ (getD input i 0 ∷ []))) whole
-      ∙ take-append-le 81 line (getD input i 0 ∷ []) (omega (arith, e))
-      ∙ take-all 81 line (omega (arith, e)))
-      ∙ joins k
 
 too-long : (p : List ℕ) → 80 < length p → readingOf p ≡ NoCall
 unfolding readingOf lineNumbers

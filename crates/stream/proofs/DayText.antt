@@ -12,11 +12,12 @@ use Rattle.model.specs.State.{freshExchange}
 use borrow.Author.Tests.{le-ltb}
 use Rattle.fields.specs.Grammar.{onFirst}
 use Rattle.fields.proofs.Scan.{by-test, by-order, onAll, all-cons, all-snoc}
 use Rattle.replay.specs.Lines.{LineRequest, lineOutcome, lineText, lineRequestOf, stateAfterLines}
-use Rattle.replay.specs.Days.{linesOf, answerText, header, lastLine, dayOf, numbered, writtenText, runText, DayIsRun}
-use Rattle.replay.specs.Pieces.{Stream, start, nextByte, byteText, after, textOf, keptBytes, lastBytes, endText, ended, writtenBy, afterAll, joined, CutAnywhere, AnyCutting}
+use Rattle.stream.specs.Days.{linesOf, answerText, header, lastLine, dayOf, numbered, writtenText, runText, DayIsRun}
+use Rattle.lines.specs.Kept.{keptBytes}
+use Rattle.stream.specs.Pieces.{Stream, start, nextByte, byteText, after, textOf, lastBytes, endText, ended, writtenBy, afterAll, joined, CutAnywhere, AnyCutting}
 use Rattle.replay.proofs.LineRun.{line-fits}
-use Rattle.replay.proofs.StreamLaws.{after-append, text-append, begun, end-byte, end-text, more-byte, more-text, over-after, over-text}
+use Rattle.stream.proofs.StreamLaws.{after-append, text-append, begun, end-byte, end-text, more-byte, more-text, over-after, over-text}
 
 -- ---- the answers that are still to come after n lines
 
@@ -104,7 +105,7 @@ day-is input = ap (λ (t : List ℕ). header ++ t) (whole input [] freshExchange
 -- ---- the state, in the same way
 
 abbrev stateAt : Exchange → ℕ → List (List ℕ) → Exchange
-stateAt x n ls = stateAfterLines x (numbered x n (take (left n) ls))
+stateAt x n ls = stateAfterLines lineRequestOf x (numbered x n (take (left n) ls))
 
 exact : (x : Exchange) (n : ℕ) (l : List ℕ) → lineRequestOf x (record { number = n; room = length (lineText x n l); line = l }) ≡ lineOutcome x l
 exact x n l = line-fits x (record { number = n; room = length (lineText x n l); line = l }) (le-refl (length (lineText x n l)))
@@ -114,17 +115,17 @@ state-line : (x : Exchange) (n : ℕ) (p : List ℕ) (ls : List (List ℕ)) → 
 unfolding stateAfterLines
 state-line x n p ls h =
     let e : left n ≡ suc (left (n + 1)) = omega arith in
-    ap (λ (k : ℕ). stateAfterLines x (numbered x n (take k (p ∷ ls)))) e
-    ∙ ap (λ (o : Outcome). stateAfterLines (o .exchange) (numbered (lineOutcome x p .exchange) (n + 1) (take (left (n + 1)) ls))) (exact x (n + 1) p)
+    ap (λ (k : ℕ). stateAfterLines lineRequestOf x (numbered x n (take k (p ∷ ls)))) e
+    ∙ ap (λ (o : Outcome). stateAfterLines lineRequestOf (o .exchange) (numbered (lineOutcome x p .exchange) (n + 1) (take (left (n + 1)) ls))) (exact x (n + 1) p)
 
-state-none : (x : Exchange) (n k : ℕ) → stateAfterLines x (numbered x n (take k [])) ≡ x
+state-none : (x : Exchange) (n k : ℕ) → stateAfterLines lineRequestOf x (numbered x n (take k [])) ≡ x
 unfolding stateAfterLines
 state-none x n zero = refl
 state-none x n (suc k) = refl
 
 state-over : (x : Exchange) (n : ℕ) (ls : List (List ℕ)) → lastLine ≤ n → stateAt x n ls ≡ x
 unfolding stateAfterLines
-state-over x n ls h = ap (λ (k : ℕ). stateAfterLines x (numbered x n (take k ls))) (sub-eq-zero-of-le h)
+state-over x n ls h = ap (λ (k : ℕ). stateAfterLines lineRequestOf x (numbered x n (take k ls))) (sub-eq-zero-of-le h)
 
 last-state : (x : Exchange) (n : ℕ) (p : List ℕ) → ended (begun x n p) .exchange ≡ stateAt x n (onAll p [])
 last-state x n [] = sym (state-none x n (left n))

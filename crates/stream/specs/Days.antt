@@ -45,7 +45,7 @@ dayLines input = numbered freshExchange 0 (take lastLine (linesOf input))
 
 -- the state that a day leaves; so the whole-run statement holds of it
 abbrev pub dayState : List ℕ → Exchange
-dayState input = stateAfterLines freshExchange (dayLines input)
+dayState input = stateAfterLines lineRequestOf freshExchange (dayLines input)
 
 -- what a run of lines writes: where there is too little room, nothing
 abbrev pub writtenText : Exchange → LineRequest → List ℕ

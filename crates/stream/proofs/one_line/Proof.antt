@@ -10,15 +10,15 @@ use lib.Seq.{length-take-le, take-all}
 use Rattle.decimal.specs.Buffer.{putAt, putInto}
 use Rattle.decimal.proofs.Put.{put-short, put-at}
 use Rattle.lines.specs.CallLines.{lineIn}
 use Rattle.replay.specs.declared.line.Taken.{Taken}
-use Rattle.replay.specs.declared.stream.Day.{Day}
+use Rattle.stream.specs.declared.Day.{Day}
 use Rattle.replay.specs.Lines.{lineText, takenOf}
-use Rattle.replay.specs.Pieces.{keptBytes}
+use Rattle.lines.specs.Kept.{keptBytes}
 use Rattle.replay.proofs.LineRun.{taken-short, taken-fits, taken-moved}
-use Rattle.replay.proofs.StreamLaws.{same-text, same-taken, line-front, line-within}
-use Rattle.replay.proofs.FeedLaws.{full, line-goes-on, line-waits, line-ends}
-use Rattle.replay.proofs.stream.one_line.Statement.{statement}
-use Rattle.replay.proofs.stream.one_line.Tie as tie
+use Rattle.stream.proofs.StreamLaws.{same-text, same-taken, line-front, line-within}
+use Rattle.stream.proofs.FeedLaws.{full, line-goes-on, line-waits, line-ends}
+use Rattle.stream.proofs.one_line.Statement.{statement}
+use Rattle.stream.proofs.one_line.Tie as tie
 
 line-end-requires : tie.Need-line-end-requires
 line-end-requires c κs = tt
