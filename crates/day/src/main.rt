@@ -4,17 +4,17 @@ ghost use mathlib.Core.Bool.{true};
 ghost use Prim.Native.Nat.{_≤_};
 ghost use lib.ListN.{length};
 ghost use Rattle.model.specs.Run.{Reachable};
+ghost use Rattle.lines.specs.AnswerLength.{longestAnswer};
 ghost use Rattle.stream.specs.Pieces.{streamOf, after};
 use libc::STDERR_FILENO;
 use libc::STDIN_FILENO;
 use libc::STDOUT_FILENO;
 use stream::Day;
+use stream::LAST_LINE;
 use stream::feed;
 use stream::finish;
 use stream::fresh_day;
 use stream::header;
-
-const LAST_LINE: u32 = 4_294_967_295;
 
 // The day after a piece of the input, and whether its answers were written.
 struct Step {
@@ -38,7 +38,7 @@ struct Ended {
 // Feeds a piece of the input and writes what it answers.
 fn take_piece(d: Day, input: &[u8], out: &mut [u8]) -> Step
     requires { ⌜ Reachable (d .exchange) ⌝ }
-    requires { ⌜ 35 ≤ length (now out) ⌝ }
+    requires { ⌜ longestAnswer ≤ length (now out) ⌝ }
     ensures { λ r. ⌜ Reachable (r .day .exchange) ⌝ }
     ensures { λ r. ⌜ (r .written ≡ true → streamOf (r .day) ≡ after (streamOf d) (now (input .entry))) ⌝ }
 {
@@ -64,7 +64,7 @@ fn take_piece(d: Day, input: &[u8], out: &mut [u8]) -> Step
 // that no run uses up.
 fn take_all(d: Day, out: &mut [u8]) -> Ended
     requires { ⌜ Reachable (d .exchange) ⌝ }
-    requires { ⌜ 35 ≤ length (now out) ⌝ }
+    requires { ⌜ longestAnswer ≤ length (now out) ⌝ }
     ensures { λ r. ⌜ Reachable (r .day .exchange) ⌝ }
 {
     let mut input = io::large_buffer();

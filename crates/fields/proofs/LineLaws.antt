@@ -8,7 +8,7 @@ use lib.ListN.{length, take, drop}
 use lib.Seq.{take-append-seam}
 use lib.Dec.{leb, eqb}
 use borrow.Author.Tests.{le-leb, lt-leb}
-use Rattle.fields.specs.Grammar.{isDigit, partsOf, before, numberOf, numbersOf, lineNumbers}
+use Rattle.fields.specs.Grammar.{isDigit, partsOf, before, numberOf, allNumbers, lineNumbers}
 use Rattle.fields.specs.Fields.{isFieldByte, fieldBytes, fieldsEnd, withNumbers, fieldsAt}
 use Rattle.fields.proofs.Scan.{by-test, onAll, all-cons, all-snoc, first-bad}
 
@@ -17,7 +17,7 @@ before-none none = refl
 before-none (some n) = refl
 
 -- digits, then bytes that are not all digits and commas
-stops-from : (line ds : List ℕ) → length (fieldBytes line) < length line → numbersOf (onAll ds (partsOf line)) ≡ none
+stops-from : (line ds : List ℕ) → length (fieldBytes line) < length line → allNumbers (onAll ds (partsOf line)) ≡ none
 stops-from [] ds h = absurd (omega arith)
 stops-from (b ∷ bs) ds h =
     by-test
@@ -34,7 +34,7 @@ stops-from (b ∷ bs) ds h =
     (λ t. rw e (first-bad ds b (partsOf bs) t)))
 
 -- a line with a byte that is neither digit nor comma has no numbers
-pub stops-short : (line : List ℕ) → length (fieldBytes line) < length line → numbersOf (partsOf line) ≡ none
+pub stops-short : (line : List ℕ) → length (fieldBytes line) < length line → allNumbers (partsOf line) ≡ none
 stops-short line h = stops-from line [] h
 
 pub all-field-bytes : (line : List ℕ) → length line ≤ length (fieldBytes line) → fieldBytes line ≡ line
@@ -48,7 +48,7 @@ all-field-bytes (b ∷ bs) h =
     (λ e. absurd (omega (arith, rw e at h)))
 
 -- at most 80 bytes
-pub line-short : (l : List ℕ) → length l ≤ 80 → lineNumbers l ≡ numbersOf (partsOf l)
+pub line-short : (l : List ℕ) → length l ≤ 80 → lineNumbers l ≡ allNumbers (partsOf l)
 unfolding lineNumbers
 line-short l h = rw (le-leb _ _ h)
 
@@ -75,4 +75,4 @@ numbers-stop stop (some ns) = by-test (leb (length ns) 8) (λ e. rw e) (λ e. rw
 
 pub fields-stop : (bytes : List ℕ) (from : ℕ) → fieldsAt bytes from .stop ≡ fieldsEnd bytes from
 unfolding fieldsAt
-fields-stop bytes from = numbers-stop (fieldsEnd bytes from) (numbersOf (partsOf (fieldBytes (drop from bytes))))
+fields-stop bytes from = numbers-stop (fieldsEnd bytes from) (allNumbers (partsOf (fieldBytes (drop from bytes))))

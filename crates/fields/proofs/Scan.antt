@@ -15,23 +15,23 @@ use native.Mathlib.Numerals.{add-one}
 use lib.Dec.{leb, ltb, eqb}
 use borrow.Author.Tests.{le-leb, lt-leb, lt-ltb, ne-eqb, leb-true, leb-false, ltb-true, eqb-true, eqb-false, ltb-false}
 use Rattle.units.specs.Counts.{largest}
-use Rattle.fields.specs.Grammar.{isDigit, allDigits, valueFrom, isNumber, numberOf, onFirst, partsOf, before, numbersOf}
-use Rattle.fields.specs.Fields.{isFieldByte, fieldBytes, fieldsEnd, withNumbers, withDigit, commaAt}
+use Rattle.fields.specs.Grammar.{isDigit, allDigits, valueFrom, isNumber, numberOf, onFirst, partsOf, before, allNumbers}
+use Rattle.fields.specs.Fields.{isFieldByte, fieldBytes, fieldsEnd, withNumbers, fieldStep, commaAt}
 use Rattle.fields.specs.declared.Fields.{Fields}
-use Rattle.fields.specs.declared.Digit.{Digit}
-use Rattle.fields.specs.declared.Digit.the-variants.{Value, End, Bad}
+use Rattle.fields.specs.declared.FieldStep.{FieldStep}
+use Rattle.fields.specs.declared.FieldStep.the-variants.{Value, End, Bad}
 
-abbrev pub onDigit : Digit → (ℕ → Option (List ℕ)) → Option (List ℕ) → Option (List ℕ)
-onDigit (Value w) f m = f w
-onDigit End f m = m
-onDigit Bad f m = none
+abbrev pub onStep : FieldStep → (ℕ → Option (List ℕ)) → Option (List ℕ) → Option (List ℕ)
+onStep (Value w) f m = f w
+onStep End f m = m
+onStep Bad f m = none
 
 -- bytes, the numbers before them, whether a field has begun, and its value
 abbrev pub scan : List ℕ → List ℕ → Bool → ℕ → Option (List ℕ)
 scan [] ns s v = cond s (some (ns ++ (v ∷ []))) none
 scan (b ∷ bs) ns s v =
     cond (eqb b 44) (cond s (scan bs (ns ++ (v ∷ [])) false 0) none)
-    (onDigit (withDigit s v b) (λ w. scan bs ns true w) (cond s (some (ns ++ (v ∷ []))) none))
+    (onStep (fieldStep s v b) (λ w. scan bs ns true w) (cond s (some (ns ++ (v ∷ []))) none))
 
 -- ---- tests
 
@@ -132,12 +132,12 @@ join-snoc ns v (some ms) = ap {B = Option (List ℕ)} some (append-assoc ns (v �
 
 -- a field that is no number leaves none
 first-none : (ds : List ℕ) (b : ℕ) (ps : List (List ℕ)) → ((p : List ℕ) → numberOf (ds ++ (b ∷ p)) ≡ none)
-    → numbersOf (onAll ds (onFirst b ps)) ≡ none
+    → allNumbers (onAll ds (onFirst b ps)) ≡ none
 first-none ds b ps h =
     let f = first-cons b ps in
     rw (f .2, all-cons ds (b ∷ f .0) (f .1), h (f .0))
 
-pub first-bad : (ds : List ℕ) (b : ℕ) (ps : List (List ℕ)) → isDigit b ≡ false → numbersOf (onAll ds (onFirst b ps)) ≡ none
+pub first-bad : (ds : List ℕ) (b : ℕ) (ps : List (List ℕ)) → isDigit b ≡ false → allNumbers (onAll ds (onFirst b ps)) ≡ none
 first-bad ds b ps t = first-none ds b ps (λ p. no-digits _ (all-bad ds b p t))
 
 number-is : (ds : List ℕ) (s : Bool) (v : ℕ) → State ds s v → numberOf ds ≡ cond s (some v) none
@@ -152,7 +152,7 @@ end-with ns true v = refl
 end-with ns false v = refl
 
 end-is : (ns ds : List ℕ) (s : Bool) (v : ℕ) → State ds s v
-    → cond s (some (ns ++ (v ∷ []))) none ≡ joinN ns (numbersOf (onAll ds ([] ∷ [])))
+    → cond s (some (ns ++ (v ∷ []))) none ≡ joinN ns (allNumbers (onAll ds ([] ∷ [])))
 end-is ns ds s v st = rw (all-cons ds [] [], append-nil ds, number-is ds s v st) (end-with ns s v)
 
 -- a comma
@@ -162,8 +162,8 @@ comma-with ns true v r m q = q ∙ join-snoc ns v m
 comma-with ns false v r m q = refl
 
 comma-is : (ns ds : List ℕ) (s : Bool) (v : ℕ) (r : Option (List ℕ)) (ps : List (List ℕ)) → State ds s v
-    → r ≡ joinN (ns ++ (v ∷ [])) (numbersOf ps) → cond s r none ≡ joinN ns (numbersOf (onAll ds ([] ∷ ps)))
-comma-is ns ds s v r ps st q = rw (all-cons ds [] ps, append-nil ds, number-is ds s v st) (comma-with ns s v r (numbersOf ps) q)
+    → r ≡ joinN (ns ++ (v ∷ [])) (allNumbers ps) → cond s r none ≡ joinN ns (allNumbers (onAll ds ([] ∷ ps)))
+comma-is ns ds s v r ps st q = rw (all-cons ds [] ps, append-nil ds, number-is ds s v st) (comma-with ns s v r (allNumbers ps) q)
 
 -- a digit
 pub low : (b : ℕ) → isDigit b ≡ true → 48 ≤ b
@@ -186,9 +186,9 @@ state-one b e =
 
 module _ (ns : List ℕ) (b : ℕ) (k : ℕ → Option (List ℕ)) (m : Option (List ℕ)) (ps : List (List ℕ)) where
   digit-is : (ds : List ℕ) (s : Bool) (v : ℕ) → State ds s v
-      → ((es : List ℕ) (w : ℕ) → State es true w → k w ≡ joinN ns (numbersOf (onAll es ps)))
-      → isDigit b ≡ true → onDigit (withDigit s v b) k m ≡ joinN ns (numbersOf (onAll ds (onFirst b ps)))
-  unfolding withDigit numberOf
+      → ((es : List ℕ) (w : ℕ) → State es true w → k w ≡ joinN ns (allNumbers (onAll es ps)))
+      → isDigit b ≡ true → onStep (fieldStep s v b) k m ≡ joinN ns (allNumbers (onAll ds (onFirst b ps)))
+  unfolding fieldStep numberOf
   digit-is ds s v fresh ih e =
       let h : b ≤ 57 = high b e in
       rw (e, le-leb (0 * 10 + (b - 48)) largest (omega arith)) (ih (b ∷ []) (0 * 10 + (b - 48)) (state-one b e))
@@ -203,7 +203,7 @@ module _ (ns : List ℕ) (b : ℕ) (k : ℕ → Option (List ℕ)) (m : Option (
       (ih ((d ∷ es) ++ (b ∷ [])) (w * 10 + (b - 48))
       (more d (es ++ (b ∷ [])) (w * 10 + (b - 48)) z (all-more (d ∷ es) b a e)
       (ap (λ (x : ℕ). x * 10 + (b - 48)) q ∙ sym (value-more 0 (d ∷ es) b)) (omega arith) (leb-true _ _ t))
-      ∙ ap (λ (l : List (List ℕ)). joinN ns (numbersOf l)) (all-snoc (d ∷ es) b ps)))
+      ∙ ap (λ (l : List (List ℕ)). joinN ns (allNumbers l)) (all-snoc (d ∷ es) b ps)))
       (λ t.
       rw t
       (sym (ap (joinN ns) (first-none (d ∷ es) b ps
@@ -212,11 +212,11 @@ module _ (ns : List ℕ) (b : ℕ) (k : ℕ → Option (List ℕ)) (m : Option (
       (omega (arith, leb-false (w * 10 + (b - 48)) largest t, value-split 0 (d ∷ es) (b ∷ r), value-grows (valueFrom 0 (d ∷ es) * 10 + (b - 48)) r, q))))))))
 
 -- a byte that is no digit ends the field
-no-digit : (s : Bool) (v b : ℕ) → isDigit b ≡ false → withDigit s v b ≡ End
-unfolding withDigit
+no-digit : (s : Bool) (v b : ℕ) → isDigit b ≡ false → fieldStep s v b ≡ End
+unfolding fieldStep
 no-digit s v b t = rw t
 
-scan-is : (bs ns ds : List ℕ) (s : Bool) (v : ℕ) → State ds s v → scan bs ns s v ≡ joinN ns (numbersOf (onAll ds (partsOf (fieldBytes bs))))
+scan-is : (bs ns ds : List ℕ) (s : Bool) (v : ℕ) → State ds s v → scan bs ns s v ≡ joinN ns (allNumbers (onAll ds (partsOf (fieldBytes bs))))
 scan-is [] ns ds s v st = end-is ns ds s v st
 scan-is (b ∷ bs) ns ds s v st =
     by-test
@@ -236,7 +236,7 @@ join-none : (m : Option (List ℕ)) → joinN [] m ≡ m
 join-none none = refl
 join-none (some ms) = refl
 
-pub scan-line : (bs : List ℕ) → numbersOf (partsOf (fieldBytes bs)) ≡ scan bs [] false 0
+pub scan-line : (bs : List ℕ) → allNumbers (partsOf (fieldBytes bs)) ≡ scan bs [] false 0
 scan-line bs = sym (scan-is bs [] [] false 0 fresh ∙ join-none _)
 
 -- ---- more than eight numbers are refused
@@ -249,8 +249,8 @@ long-cond : (stop : ℕ) (s : Bool) (r : Option (List ℕ)) → withNumbers stop
 long-cond stop true r e = e
 long-cond stop false r e = refl
 
-long-digit : (stop : ℕ) (d : Digit) (k : ℕ → Option (List ℕ)) (m : Option (List ℕ)) → ((w : ℕ) → withNumbers stop (k w) ≡ noFields stop)
-    → withNumbers stop m ≡ noFields stop → withNumbers stop (onDigit d k m) ≡ noFields stop
+long-digit : (stop : ℕ) (d : FieldStep) (k : ℕ → Option (List ℕ)) (m : Option (List ℕ)) → ((w : ℕ) → withNumbers stop (k w) ≡ noFields stop)
+    → withNumbers stop m ≡ noFields stop → withNumbers stop (onStep d k m) ≡ noFields stop
 long-digit stop (Value w) k m e f = e w
 long-digit stop End k m e f = f
 long-digit stop Bad k m e f = refl
@@ -266,12 +266,12 @@ long stop (b ∷ bs) ns s v h =
     (λ e. rw e (long-cond stop s _ (long stop bs (ns ++ (v ∷ [])) false 0 (omega (arith, length-append ns (v ∷ []))))))
     (λ e.
     rw e
-    (long-digit stop (withDigit s v b) (λ w. scan bs ns true w) _ (λ w. long stop bs ns true w h)
+    (long-digit stop (fieldStep s v b) (λ w. scan bs ns true w) _ (λ w. long stop bs ns true w h)
     (long-cond stop s _ (long-end stop ns v (omega arith)))))
 
--- ---- what with_digit tells of the byte
+-- ---- what field_step tells of the byte
 
-abbrev goes : Digit → Bool
+abbrev goes : FieldStep → Bool
 goes (Value w) = true
 goes End = false
 goes Bad = true
@@ -281,11 +281,11 @@ goes-on true t w = refl
 goes-on false true w = refl
 goes-on false false w = refl
 
-goes-is : (s : Bool) (v b : ℕ) → goes (withDigit s v b) ≡ isDigit b
-unfolding withDigit
+goes-is : (s : Bool) (v b : ℕ) → goes (fieldStep s v b) ≡ isDigit b
+unfolding fieldStep
 goes-is s v b = by-test (isDigit b) (λ t. rw t (goes-on (s && eqb v 0) (leb (v * 10 + (b - 48)) largest) _)) (λ t. rw t)
 
-told : (s : Bool) (v b : ℕ) (d : Digit) → withDigit s v b ≡ d → isDigit b ≡ goes d
+told : (s : Bool) (v b : ℕ) (d : FieldStep) → fieldStep s v b ≡ d → isDigit b ≡ goes d
 told s v b d e = sym (goes-is s v b) ∙ ap goes e
 
 no-comma : (b : ℕ) → isDigit b ≡ true → eqb b 44 ≡ false
@@ -333,17 +333,17 @@ module _ (l : List ℕ) (i : ℕ) where
   last-end (inr h) e = end-here (h .0) (rw (comma-not (h .0) e) (h .1))
 
 module _ (l : List ℕ) (i : ℕ) (ns : List ℕ) (s : Bool) (v : ℕ) where
-  pub digit-step : (w : ℕ) → i < length l → withDigit s v (getD l i 0) ≡ Value w
+  pub digit-step : (w : ℕ) → i < length l → fieldStep s v (getD l i 0) ≡ Value w
       → scan (drop i l) ns s v ≡ scan (drop (i + 1) l) ns true w
   digit-step w h e = rw (add-one i, drop-cons l i 0 h, no-comma _ (told s v _ (Value w) e), e)
 
-  pub digit-end : (w : ℕ) → i < length l → withDigit s v (getD l i 0) ≡ Value w → fieldsEnd l i ≡ fieldsEnd l (i + 1)
+  pub digit-end : (w : ℕ) → i < length l → fieldStep s v (getD l i 0) ≡ Value w → fieldsEnd l i ≡ fieldsEnd l (i + 1)
   digit-end w h e = end-more l i h (digit-field (getD l i 0) (told s v (getD l i 0) (Value w) e))
 
-  pub digit-bad : i < length l → withDigit s v (getD l i 0) ≡ Bad → scan (drop i l) ns s v ≡ none
+  pub digit-bad : i < length l → fieldStep s v (getD l i 0) ≡ Bad → scan (drop i l) ns s v ≡ none
   digit-bad h e = rw (drop-cons l i 0 h, no-comma _ (told s v _ Bad e), e)
 
-  pub ends-at : i < length l → withDigit s v (getD l i 0) ≡ End → Ends l i
+  pub ends-at : i < length l → fieldStep s v (getD l i 0) ≡ End → Ends l i
   ends-at h e = inr (h, told s v _ End e)
 
   pub comma-step : commaAt l i ≡ true → scan (drop i l) ns s v ≡ cond s (scan (drop (i + 1) l) (ns ++ (v ∷ [])) false 0) none

@@ -7,9 +7,9 @@ use lib.ListN.{length, drop, getD, replicate}
 use lib.Dec.{leb, ltb, eqb}
 use Rattle.units.specs.Counts.{largest}
 use Rattle.fields.specs.declared.Fields.{Fields}
-use Rattle.fields.specs.declared.Digit.{Digit}
-use Rattle.fields.specs.declared.Digit.the-variants.{Value, End, Bad}
-use Rattle.fields.specs.Grammar.{isDigit, partsOf, numbersOf}
+use Rattle.fields.specs.declared.FieldStep.{FieldStep}
+use Rattle.fields.specs.declared.FieldStep.the-variants.{Value, End, Bad}
+use Rattle.fields.specs.Grammar.{isDigit, partsOf, allNumbers}
 
 abbrev pub isFieldByte : ℕ → Bool
 isFieldByte b = eqb b 44 || isDigit b
@@ -23,7 +23,7 @@ fieldBytes (b ∷ bs) = cond (isFieldByte b) (b ∷ fieldBytes bs) []
 unfoldable pub fieldsEnd : List ℕ → ℕ → ℕ
 fieldsEnd bytes from = from + length (fieldBytes (drop from bytes))
 
--- numbers, where there are at most eight: those that are not there are 0
+-- numbers, where there are at most eight, which is more than any kind has: those that are not there are 0
 abbrev pub withNumbers : ℕ → Option (List ℕ) → Fields
 withNumbers stop none = record { good = false; count = 0; values = replicate 8 0; stop = stop }
 withNumbers stop (some ns) =
@@ -32,14 +32,14 @@ withNumbers stop (some ns) =
     (record { good = false; count = 0; values = replicate 8 0; stop = stop })
 
 unfoldable pub fieldsAt : List ℕ → ℕ → Fields
-fieldsAt bytes from = withNumbers (fieldsEnd bytes from) (numbersOf (partsOf (fieldBytes (drop from bytes))))
+fieldsAt bytes from = withNumbers (fieldsEnd bytes from) (allNumbers (partsOf (fieldBytes (drop from bytes))))
 
 -- ---- its steps
 
 -- a field's value v with the byte b after it: it ends where b is no digit; it is no number where it is a lone 0 so far, or where the
 -- value passes 4,294,967,295
-unfoldable pub withDigit : Bool → ℕ → ℕ → Digit
-withDigit started v b =
+unfoldable pub fieldStep : Bool → ℕ → ℕ → FieldStep
+fieldStep started v b =
     cond (isDigit b)
     (cond (started && eqb v 0) Bad (cond (leb (v * 10 + (b - 48)) largest) (Value (v * 10 + (b - 48))) Bad))
     End

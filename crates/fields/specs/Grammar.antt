@@ -51,13 +51,14 @@ before (some n) none = none
 before (some n) (some ns) = some (n ∷ ns)
 
 -- the numbers of all parts, where each is one
-abbrev pub numbersOf : List (List ℕ) → Option (List ℕ)
-numbersOf [] = some []
-numbersOf (p ∷ ps) = before (numberOf p) (numbersOf ps)
+abbrev pub allNumbers : List (List ℕ) → Option (List ℕ)
+allNumbers [] = some []
+allNumbers (p ∷ ps) = before (numberOf p) (allNumbers ps)
 
 -- "At most 80 bytes before byte 10; a longer line is one line and gets 20"
 abbrev pub longestLine : ℕ
 longestLine = 80
 
+-- the numbers of a line, where it is of this form
 unfoldable pub lineNumbers : List ℕ → Option (List ℕ)
-lineNumbers line = cond (leb (length line) longestLine) (numbersOf (partsOf line)) none
+lineNumbers line = cond (leb (length line) longestLine) (allNumbers (partsOf line)) none

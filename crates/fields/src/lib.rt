@@ -1,9 +1,9 @@
 // The field reader: the numbers of a line, read where it lies.
 ghost use mathlib.Core.Path.{_≡_};
-ghost use Rattle.fields.specs.Fields.{isFieldByte, commaAt, withDigit, fieldsEnd, fieldsAt};
+ghost use Rattle.fields.specs.Fields.{isFieldByte, commaAt, fieldStep, fieldsEnd, fieldsAt};
 
 // The numbers that a line begins with, the kind and its fields, and the place where the reader stopped. They are good where each is a
-// number and there are at most eight; else count and values are 0.
+// number and there are at most eight, which is more than any kind has; else count and values are 0.
 pub struct Fields {
     pub good: bool,
     pub count: usize,
@@ -12,32 +12,32 @@ pub struct Fields {
 }
 
 // A field's value with one byte more: it is a digit, or the field ends before it, or the field is no number.
-pub enum Digit {
+pub enum FieldStep {
     Value(u32),
     End,
     Bad,
 }
 
 // The byte b after a field's value. started says that the field has a digit already.
-fn with_digit(started: bool, value: u32, b: u8) -> Digit
-    ensures { λ r. ⌜ r ≡ withDigit started value b ⌝ }
+fn field_step(started: bool, value: u32, b: u8) -> FieldStep
+    ensures { λ r. ⌜ r ≡ fieldStep started value b ⌝ }
 {
     if b < b'0' {
-        return Digit::End;
+        return FieldStep::End;
     }
     if b'9' < b {
-        return Digit::End;
+        return FieldStep::End;
     }
     if started {
         if value == 0 {
-            return Digit::Bad;
+            return FieldStep::Bad;
         }
     }
     let next = (value as u64) * 10 + ((b - b'0') as u64);
     if 4294967295 < next {
-        return Digit::Bad;
+        return FieldStep::Bad;
     }
-    Digit::Value(next as u32)
+    FieldStep::Value(next as u32)
 }
 
 // Whether a comma stands at a place.
@@ -91,15 +91,15 @@ pub fn read_fields(bytes: &[u8], from: usize) -> Fields
         let start = i;
         let mut value: u32 = 0;
         while i < n {
-            let d = with_digit(start < i, value, bytes[i]);
+            let d = field_step(start < i, value, bytes[i]);
             match d {
-                Digit::Value(next) => {
+                FieldStep::Value(next) => {
                     value = next;
                 }
-                Digit::End => {
+                FieldStep::End => {
                     break;
                 }
-                Digit::Bad => {
+                FieldStep::Bad => {
                     break 'line;
                 }
             }

@@ -1,16 +1,17 @@
 -- Laws of the answer line: its fields and its length.
 use mathlib.Core.Path.{_≡_, refl, sym, ap, _∙_}
 use mathlib.Core.List.{List, [], _∷_, _++_, append-assoc}
-use Prim.Native.Nat.{ℕ, _+_, _/_, _≤_, _<_, _^_}
+use Prim.Native.Nat.{ℕ, _+_, _/_, _≤_, _<_}
 use native.Mathlib.Omega.{arith}
 use lib.Dec.{lit<}
 use lib.ListN.{length, length-append}
 use Rattle.units.specs.Decimal.{digits}
-use Rattle.decimal.proofs.Digits.{digits-length, lead-bound, digits-bound}
+use Rattle.decimal.proofs.Digits.{digits-length, lead-bound}
 use Rattle.model.specs.declared.answer.Refusal.{Refusal}
 use Rattle.model.specs.declared.answer.Refusal.the-variants as Refusal
 use Rattle.model.specs.declared.answer.Answer.{Answer}
 use Rattle.model.specs.declared.answer.Answer.the-variants.{Accepted, Refused}
+use Rattle.lines.specs.AnswerLength.{longestAnswer}
 use Rattle.model.specs.Answers.{refusalCode, codeOf, firstOf, secondOf, answerLine}
 
 -- a number and the byte that ends it
@@ -76,7 +77,7 @@ unfolding digits
 one-digit = refl
 
 -- ten digits at most for each number; the code of an acceptance has one, and the numbers of a refusal have one each
-pub answer-bound : (n : ℕ) (a : Answer) → length (digits n) ≤ 10 → length (digits (firstOf a)) ≤ 10 → length (digits (secondOf a)) ≤ 10 → length (answerLine n a) ≤ 35
+pub answer-bound : (n : ℕ) (a : Answer) → length (digits n) ≤ 10 → length (digits (firstOf a)) ≤ 10 → length (digits (secondOf a)) ≤ 10 → length (answerLine n a) ≤ longestAnswer
 answer-bound n (Accepted first second) hn hf hs = omega (arith, line-length n (Accepted first second), one-digit)
 answer-bound n (Refused why) hn hf hs = omega (arith, line-length n (Refused why), code-digits (refusalCode why) (refusal-bound why), one-digit)
 

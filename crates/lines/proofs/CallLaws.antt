@@ -11,7 +11,7 @@ use lib.Seq.{drop-cons, drop-drop, take-all}
 use lib.Dec.{leb, eqb}
 use borrow.Author.Tests.{eq-eqb, ne-eqb, leb-true, leb-false, eqb-true}
 use Rattle.fields.specs.declared.Fields.{Fields}
-use Rattle.fields.specs.Grammar.{partsOf, numbersOf, lineNumbers, longestLine}
+use Rattle.fields.specs.Grammar.{partsOf, allNumbers, lineNumbers, longestLine}
 use Rattle.fields.specs.Fields.{isFieldByte, fieldBytes, fieldsEnd, withNumbers, fieldsAt}
 use Rattle.fields.proofs.Scan.{by-test}
 use Rattle.fields.proofs.LineLaws.{stops-short, all-field-bytes, line-short, line-long, numbers-in, numbers-many, fields-stop}
@@ -256,10 +256,10 @@ line-too-long bytes from end n h =
 
 -- all of it is read
 line-numbers : (bytes : List ℕ) (from : ℕ) → length (lineIn (drop from bytes)) ≤ length (fieldBytes (lineIn (drop from bytes)))
-    → fieldsAt bytes from ≡ withNumbers (fieldsEnd bytes from) (numbersOf (partsOf (lineIn (drop from bytes))))
+    → fieldsAt bytes from ≡ withNumbers (fieldsEnd bytes from) (allNumbers (partsOf (lineIn (drop from bytes))))
 unfolding fieldsAt
 line-numbers bytes from h =
-    ap (λ (l : List ℕ). withNumbers (fieldsEnd bytes from) (numbersOf (partsOf l)))
+    ap (λ (l : List ℕ). withNumbers (fieldsEnd bytes from) (allNumbers (partsOf l)))
     (sym (same-bytes (drop from bytes)) ∙ all-field-bytes (lineIn (drop from bytes)) h)
 
 pub line-read : (bytes : List ℕ) (from end : ℕ) (f : Fields) (r : Reading) → f ≡ fieldsAt bytes from
@@ -271,10 +271,10 @@ line-read bytes from end f r e n h s q =
     let same : end ≡ from + length (lineIn (drop from bytes)) = n ∙ end-is bytes from f e in
     let short : length (lineIn (drop from bytes)) ≤ 80 = omega arith in
     let all : length (lineIn (drop from bytes)) ≤ length (fieldBytes (lineIn (drop from bytes))) = omega (arith, stop-is bytes from f e) in
-    let told : r ≡ callOfNumbers (numbersOf (partsOf (lineIn (drop from bytes)))) =
+    let told : r ≡ callOfNumbers (allNumbers (partsOf (lineIn (drop from bytes)))) =
     q
     ∙ ap (λ (x : Fields). callOf (take (x .count) (x .values))) (e ∙ line-numbers bytes from all)
-    ∙ call-numbers (fieldsEnd bytes from) (numbersOf (partsOf (lineIn (drop from bytes)))) in
+    ∙ call-numbers (fieldsEnd bytes from) (allNumbers (partsOf (lineIn (drop from bytes)))) in
     cc (line-short (lineIn (drop from bytes)) short)
 
 -- ---- a line that stands alone

@@ -2,3 +2,4 @@ pub mod AnswerLines
 pub mod CallLaws
 pub mod KeptLaws
 pub mod RoundTrip
+pub mod LineExamples

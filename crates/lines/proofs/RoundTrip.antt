@@ -8,11 +8,11 @@ use native.Mathlib.Omega.{arith}
 use native.Mathlib.Nat.{le-refl, not-suc-le-zero, lt-of-lt-of-le, not-le-of-lt}
 use lib.Arith.{lt-of-le-ne, le-zero}
 use lib.ListN.{length, length-append}
-use lib.Dec.{leb, ltb, eqb, lit<}
-use borrow.Author.Tests.{le-leb, ne-eqb, leb-true, ltb-true, ltb-false, eqb-false, eqb-true}
+use lib.Dec.{leb, eqb, lit<}
+use borrow.Author.Tests.{le-leb, ne-eqb, eqb-false, eqb-true}
 use Rattle.units.specs.Counts.{largest}
 use Rattle.units.specs.Decimal.{digits}
-use Rattle.fields.specs.Grammar.{isDigit, allDigits, valueFrom, isNumber, numberOf, onFirst, partsOf, numbersOf, lineNumbers, longestLine}
+use Rattle.fields.specs.Grammar.{isDigit, allDigits, valueFrom, isNumber, numberOf, onFirst, partsOf, allNumbers, lineNumbers, longestLine}
 use Rattle.fields.proofs.Scan.{by-test, by-order, low, high, value-more, all-more, number-good}
 use Rattle.fields.proofs.LineLaws.{line-short}
 use Rattle.model.specs.declared.call.Call.{Call}
@@ -110,7 +110,7 @@ pub by-option : {A P : Type 0} (o : Option A) → (o ≡ none → P) → ((a : A
 by-option none f g = f refl
 by-option (some a) f g = g a refl
 
-pub numbers-written : (ps : List (List ℕ)) (ns : List ℕ) → numbersOf ps ≡ some ns → map digits ns ≡ ps
+pub numbers-written : (ps : List (List ℕ)) (ns : List ℕ) → allNumbers ps ≡ some ns → map digits ns ≡ ps
 numbers-written [] ns e = ap (map digits) (same [] ns e)
   where
     same : (a b : List ℕ) → _≡_ {A = Option (List ℕ)} (some a) (some b) → b ≡ a
@@ -119,7 +119,7 @@ numbers-written (p ∷ ps) ns e =
     by-option (numberOf p)
     (λ f. absurd (differ ns (rw f at e)))
     (λ n f.
-    by-option (numbersOf ps)
+    by-option (allNumbers ps)
     (λ g. absurd (differ ns (rw (f, g) at e)))
     (λ ms g.
     ap (map digits) (same (n ∷ ms) ns (rw (f, g) at e))
@@ -245,7 +245,7 @@ abbrev pub Small : List ℕ → Type 0
 Small [] = Unit {0}
 Small (n ∷ ns) = (n ≤ largest) × Small ns
 
-pub numbers-read : (n : ℕ) (ns : List ℕ) → Small (n ∷ ns) → numbersOf (partsOf (joinParts (map digits (n ∷ ns)))) ≡ some (n ∷ ns)
+pub numbers-read : (n : ℕ) (ns : List ℕ) → Small (n ∷ ns) → allNumbers (partsOf (joinParts (map digits (n ∷ ns)))) ≡ some (n ∷ ns)
 numbers-read n [] s = rw (partsOf-one (digits n) (digits-all n), number-read n (s .0))
 numbers-read n (m ∷ ns) s =
     rw (partsOf-more (digits n) (joinParts (map digits (m ∷ ns))) (digits-all n), number-read n (s .0), numbers-read m ns (s .1))

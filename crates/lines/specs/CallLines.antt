@@ -1,4 +1,4 @@
--- The call that a line is, "by kind number and fields", or none; and the lines of an input.
+-- The call that a line is, "by kind number and fields", or none; and the line at a place of an input.
 use Prim.Native.Nat.{ℕ, _+_}
 use mathlib.Core.Bool.{cond}
 use mathlib.Core.List.{List, [], _∷_}
@@ -14,57 +14,57 @@ use Rattle.fields.specs.Grammar.{lineNumbers}
 
 -- ---- a kind's fields: so many, no more and no fewer
 
-abbrev pub one : (ℕ → Call) → List ℕ → Reading
-one f [] = NoCall
-one f (a ∷ []) = Read (f a)
-one f (a ∷ (b ∷ ns)) = NoCall
+abbrev pub oneField : (ℕ → Call) → List ℕ → Reading
+oneField f [] = NoCall
+oneField f (a ∷ []) = Read (f a)
+oneField f (a ∷ (b ∷ ns)) = NoCall
 
-abbrev pub two : (ℕ → ℕ → Call) → List ℕ → Reading
-two f [] = NoCall
-two f (a ∷ []) = NoCall
-two f (a ∷ (b ∷ [])) = Read (f a b)
-two f (a ∷ (b ∷ (c ∷ ns))) = NoCall
+abbrev pub twoFields : (ℕ → ℕ → Call) → List ℕ → Reading
+twoFields f [] = NoCall
+twoFields f (a ∷ []) = NoCall
+twoFields f (a ∷ (b ∷ [])) = Read (f a b)
+twoFields f (a ∷ (b ∷ (c ∷ ns))) = NoCall
 
-abbrev pub three : (ℕ → ℕ → ℕ → Call) → List ℕ → Reading
-three f [] = NoCall
-three f (a ∷ []) = NoCall
-three f (a ∷ (b ∷ [])) = NoCall
-three f (a ∷ (b ∷ (c ∷ []))) = Read (f a b c)
-three f (a ∷ (b ∷ (c ∷ (d ∷ ns)))) = NoCall
+abbrev pub threeFields : (ℕ → ℕ → ℕ → Call) → List ℕ → Reading
+threeFields f [] = NoCall
+threeFields f (a ∷ []) = NoCall
+threeFields f (a ∷ (b ∷ [])) = NoCall
+threeFields f (a ∷ (b ∷ (c ∷ []))) = Read (f a b c)
+threeFields f (a ∷ (b ∷ (c ∷ (d ∷ ns)))) = NoCall
 
-abbrev pub five : (ℕ → ℕ → ℕ → ℕ → ℕ → Call) → List ℕ → Reading
-five f [] = NoCall
-five f (a ∷ []) = NoCall
-five f (a ∷ (b ∷ [])) = NoCall
-five f (a ∷ (b ∷ (c ∷ []))) = NoCall
-five f (a ∷ (b ∷ (c ∷ (d ∷ [])))) = NoCall
-five f (a ∷ (b ∷ (c ∷ (d ∷ (e ∷ []))))) = Read (f a b c d e)
-five f (a ∷ (b ∷ (c ∷ (d ∷ (e ∷ (g ∷ ns)))))) = NoCall
+abbrev pub fiveFields : (ℕ → ℕ → ℕ → ℕ → ℕ → Call) → List ℕ → Reading
+fiveFields f [] = NoCall
+fiveFields f (a ∷ []) = NoCall
+fiveFields f (a ∷ (b ∷ [])) = NoCall
+fiveFields f (a ∷ (b ∷ (c ∷ []))) = NoCall
+fiveFields f (a ∷ (b ∷ (c ∷ (d ∷ [])))) = NoCall
+fiveFields f (a ∷ (b ∷ (c ∷ (d ∷ (e ∷ []))))) = Read (f a b c d e)
+fiveFields f (a ∷ (b ∷ (c ∷ (d ∷ (e ∷ (g ∷ ns)))))) = NoCall
 
-abbrev pub six : (ℕ → ℕ → ℕ → ℕ → ℕ → ℕ → Call) → List ℕ → Reading
-six f [] = NoCall
-six f (a ∷ []) = NoCall
-six f (a ∷ (b ∷ [])) = NoCall
-six f (a ∷ (b ∷ (c ∷ []))) = NoCall
-six f (a ∷ (b ∷ (c ∷ (d ∷ [])))) = NoCall
-six f (a ∷ (b ∷ (c ∷ (d ∷ (e ∷ []))))) = NoCall
-six f (a ∷ (b ∷ (c ∷ (d ∷ (e ∷ (g ∷ [])))))) = Read (f a b c d e g)
-six f (a ∷ (b ∷ (c ∷ (d ∷ (e ∷ (g ∷ (h ∷ ns))))))) = NoCall
+abbrev pub sixFields : (ℕ → ℕ → ℕ → ℕ → ℕ → ℕ → Call) → List ℕ → Reading
+sixFields f [] = NoCall
+sixFields f (a ∷ []) = NoCall
+sixFields f (a ∷ (b ∷ [])) = NoCall
+sixFields f (a ∷ (b ∷ (c ∷ []))) = NoCall
+sixFields f (a ∷ (b ∷ (c ∷ (d ∷ [])))) = NoCall
+sixFields f (a ∷ (b ∷ (c ∷ (d ∷ (e ∷ []))))) = NoCall
+sixFields f (a ∷ (b ∷ (c ∷ (d ∷ (e ∷ (g ∷ [])))))) = Read (f a b c d e g)
+sixFields f (a ∷ (b ∷ (c ∷ (d ∷ (e ∷ (g ∷ (h ∷ ns))))))) = NoCall
 
 -- ---- the ten kinds
 
 unfoldable pub ofKind : ℕ → List ℕ → Reading
 ofKind kind fields =
-    cond (eqb kind 1) (three Deposit fields)
-    (cond (eqb kind 2) (three Withdraw fields)
-    (cond (eqb kind 3) (six Order fields)
-    (cond (eqb kind 4) (two Cancel fields)
-    (cond (eqb kind 5) (five Open fields)
-    (cond (eqb kind 6) (one Enter fields)
-    (cond (eqb kind 7) (two Match fields)
-    (cond (eqb kind 8) (six Bid fields)
-    (cond (eqb kind 9) (two Settle fields)
-    (cond (eqb kind 10) (one Claim fields)
+    cond (eqb kind 1) (threeFields Deposit fields)
+    (cond (eqb kind 2) (threeFields Withdraw fields)
+    (cond (eqb kind 3) (sixFields Order fields)
+    (cond (eqb kind 4) (twoFields Cancel fields)
+    (cond (eqb kind 5) (fiveFields Open fields)
+    (cond (eqb kind 6) (oneField Enter fields)
+    (cond (eqb kind 7) (twoFields Match fields)
+    (cond (eqb kind 8) (sixFields Bid fields)
+    (cond (eqb kind 9) (twoFields Settle fields)
+    (cond (eqb kind 10) (oneField Claim fields)
     NoCall)))))))))
 
 -- the call of a line's numbers
@@ -87,7 +87,8 @@ abbrev pub lineIn : List ℕ → List ℕ
 lineIn [] = []
 lineIn (b ∷ bs) = cond (eqb b 10) [] (b ∷ lineIn bs)
 
--- the line that begins at a place, and where it ends: at its byte 10, or at the end of the bytes
+-- the line that begins at a place, and where it ends: at its byte 10, or at the end of the bytes. From their end on there is no line: the answer
+-- is then the empty line's, and its end the place itself
 unfoldable pub lineAt : List ℕ → ℕ → LineAt
 lineAt bytes from =
     record { reading = readingOf (lineIn (drop from bytes)); end = from + length (lineIn (drop from bytes)) }

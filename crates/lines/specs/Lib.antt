@@ -1,3 +1,5 @@
+pub mod AnswerLength
 pub mod CallLines
 pub mod CallText
 pub mod Kept
+pub mod LineExamples

@@ -4,17 +4,20 @@ ghost use Prim.Native.Nat.{_≤_};
 ghost use lib.ListN.{length};
 ghost use Rattle.decimal.specs.Buffer.{putInto, putCount};
 ghost use Rattle.model.specs.Answers.{answerLine};
+ghost use Rattle.lines.specs.AnswerLength.{longestAnswer};
 use decimal::digit_count;
 use decimal::write_field;
 use model::answer;
 use model::answer::Answer;
 
-// Writes the answer line at the start of out and answers its length: 0, with out unchanged, where out is too short. No
-// answer line is longer than 35 bytes.
+pub const LONGEST_ANSWER: usize = 35;
+
+// Writes the answer line at the start of out and answers its length: 0, with out unchanged, where out is too short. None
+// is longer than LONGEST_ANSWER.
 pub fn write_answer(out: &mut [u8], number: u32, a: Answer) -> usize
     ensures { λ r. ⌜ r ≡ putCount (now (out .entry)) (answerLine number a) ⌝ }
     ensures { λ r. ⌜ now (out .exit) ≡ putInto (now (out .entry)) (answerLine number a) ⌝ }
-    ensures { λ r. ⌜ length (answerLine number a) ≤ 35 ⌝ }
+    ensures { λ r. ⌜ length (answerLine number a) ≤ longestAnswer ⌝ }
 {
     let code = answer::code(a);
     let first = answer::first(a);

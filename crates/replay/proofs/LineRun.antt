@@ -23,12 +23,13 @@ use Rattle.model.specs.Answers.{answerLine}
 use Rattle.model.specs.Calls.{refuse}
 use Rattle.pricing.specs.Prices.{sharePaid, shareGot}
 use Rattle.model.specs.State.{freshExchange}
-use Rattle.model.specs.Run.{Reachable, after-call, stepOf, Request, fitted, requestOf, eventsOf, stateAfter, Event}
+use Rattle.model.specs.Run.{Reachable, after-call, Request, fitted, requestOf, eventsOf, stateAfter, Event}
 use Rattle.model.specs.History.{History, historyOf, T, P, G}
 use Rattle.model.specs.WholeRun.{Whole, PaysOut, orderWith}
 use Rattle.model.proofs.WholeRun.{whole-run}
 use Rattle.lines.specs.declared.call.Reading.{Reading}
 use Rattle.lines.specs.declared.call.Reading.the-variants.{Read, NoCall}
+use Rattle.lines.specs.AnswerLength.{longestAnswer}
 use Rattle.lines.specs.CallLines.{readingOf}
 use Rattle.lines.specs.CallText.{lineOfCall}
 use Rattle.lines.proofs.RoundTrip.{call-round}
@@ -136,8 +137,8 @@ module _ (x : Exchange) (n : ℕ) (l xs : List ℕ) (o : Outcome) (is : o ≡ li
   pub take-put : (ys : List ℕ) → ys ≡ putInto xs (answerLine n (o .answer)) → ys ≡ putInto xs (lineText x n l)
   take-put ys e = e ∙ ap (putInto xs) text-is
 
-  pub take-bound : length (answerLine n (o .answer)) ≤ 35 → length (lineText x n l) ≤ 35
-  take-bound h = subst (λ (t : List ℕ). length t ≤ 35) text-is h
+  pub take-bound : length (answerLine n (o .answer)) ≤ longestAnswer → length (lineText x n l) ≤ longestAnswer
+  take-bound h = subst (λ (t : List ℕ). length t ≤ longestAnswer) text-is h
 
   module _ (used : ℕ) (wrote : used ≡ putCount xs (answerLine n (o .answer))) where
     counted : used ≡ putCount xs (lineText x n l)

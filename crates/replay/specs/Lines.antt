@@ -28,6 +28,7 @@ abbrev pub outcomeOf : Exchange → Reading → Outcome
 outcomeOf x NoCall = refuse x MalformedLine
 outcomeOf x (Read c) = stepOf x c
 
+-- a line without its byte 10
 unfoldable pub lineOutcome : Exchange → List ℕ → Outcome
 lineOutcome x line = outcomeOf x (readingOf line)
 

@@ -4,6 +4,7 @@ ghost use Prim.Native.Nat.{_≤_};
 ghost use lib.ListN.{length};
 ghost use Rattle.decimal.specs.Buffer.{putInto};
 ghost use Rattle.model.specs.Run.{Reachable};
+ghost use Rattle.lines.specs.AnswerLength.{longestAnswer};
 ghost use Rattle.replay.specs.Lines.{outcomeOf, lineText, takenOf};
 use exchange::step;
 use lines::answer::write_answer;
@@ -39,7 +40,7 @@ pub fn take_line(x: Exchange, number: u32, line: &[u8], out: &mut [u8]) -> Taken
     requires { ⌜ Reachable x ⌝ }
     ensures { λ r. ⌜ r ≡ takenOf x number (now (line .entry)) (length (now (out .entry))) ⌝ }
     ensures { λ r. ⌜ now (out .exit) ≡ putInto (now (out .entry)) (lineText x number (now (line .entry))) ⌝ }
-    ensures { λ r. ⌜ length (lineText x number (now (line .entry))) ≤ 35 ⌝ }
+    ensures { λ r. ⌜ length (lineText x number (now (line .entry))) ≤ longestAnswer ⌝ }
 {
     let o = outcome_of(x, read_call(line));
     let answer = o.answer;

@@ -15,7 +15,7 @@ use Rattle.fields.proofs.Scan.{by-test, by-order, onAll, all-cons, all-snoc}
 use Rattle.replay.specs.Lines.{LineRequest, lineOutcome, lineText, lineRequestOf, stateAfterLines}
 use Rattle.stream.specs.Days.{linesOf, answerText, header, lastLine, dayOf, numbered, writtenText, runText, DayIsRun}
 use Rattle.lines.specs.Kept.{keptBytes}
-use Rattle.stream.specs.Pieces.{Stream, start, nextByte, byteText, after, textOf, lastBytes, endText, ended, writtenBy, afterAll, joined, CutAnywhere, AnyCutting}
+use Rattle.stream.specs.Pieces.{Stream, start, nextByte, byteText, after, textOf, lastBytes, endText, ended, writtenBy, afterAll, joined, AnyCutting}
 use Rattle.replay.proofs.LineRun.{line-fits}
 use Rattle.stream.proofs.StreamLaws.{after-append, text-append, begun, end-byte, end-text, more-byte, more-text, over-after, over-text}
 

@@ -1,13 +1,14 @@
 -- What stands while bytes are fed: the part of the input that was taken, and the buffer that it wrote.
 use mathlib.Core.Path.{_≡_, refl, sym, ap, _∙_, subst}
 use mathlib.Core.List.{List, [], _∷_, _++_, append-assoc}
-use Prim.Native.Nat.{ℕ, _+_, _-_, _≤_, _<_}
+use Prim.Native.Nat.{ℕ, _+_, _≤_, _<_}
 use native.Mathlib.Omega.{arith}
 use native.Mathlib.Nat.{add-assoc, ne-of-gt, le-refl, not-le-of-lt, not-suc-le-zero, lt-of-lt-of-le}
 use lib.ListN.{length, take, drop, length-append, length-take, length-drop}
 use lib.Seq.{take-all, take-at, drop-append-add, drop-drop}
 use Rattle.decimal.specs.Buffer.{putAt}
 use Rattle.model.specs.declared.state.Exchange.{Exchange}
+use Rattle.lines.specs.AnswerLength.{longestAnswer}
 use Rattle.lines.specs.CallLines.{lineIn}
 use Rattle.stream.specs.declared.Day.{Day}
 use Rattle.stream.specs.declared.Fed.{Fed}
@@ -141,7 +142,7 @@ module _ (d : Day) (input : List ℕ) (lines-left : d .done < lastLine) (places 
       }
 
   -- its answer does not fit
-  pub line-waits : (out out′ : List ℕ) → out′ ≡ out → length out < length (lineText (d .exchange) (d .done + 1) full) → length (lineText (d .exchange) (d .done + 1) full) ≤ 35
+  pub line-waits : (out out′ : List ℕ) → out′ ≡ out → length out < length (lineText (d .exchange) (d .done + 1) full) → length (lineText (d .exchange) (d .done + 1) full) ≤ longestAnswer
       → FedBy d input out out′ (record { day = d; used = 0; wrote = 0 })
   line-waits out out′ e short small =
       record {

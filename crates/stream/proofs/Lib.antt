@@ -1,3 +1,4 @@
 pub mod StreamLaws
 pub mod FeedLaws
 pub mod DayText
+pub mod Examples

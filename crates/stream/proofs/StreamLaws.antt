@@ -1,14 +1,14 @@
 -- Laws of a stream of bytes: pieces put together, a line within a piece, and the line that is kept.
-use mathlib.Core.Path.{_≡_, refl, sym, ap, _∙_, subst}
+use mathlib.Core.Path.{_≡_, refl, sym, ap, _∙_}
 use mathlib.Core.Bool.{true, false, cond}
 use mathlib.Core.List.{List, [], _∷_, _++_, append-assoc, append-nil}
-use Prim.Native.Nat.{ℕ, zero, suc, _+_, _≤_, _<_}
+use Prim.Native.Nat.{ℕ, suc, _+_, _≤_, _<_}
 use native.Mathlib.Omega.{arith}
 use native.Mathlib.Nat.{not-suc-le-zero, le-of-suc-le-suc}
 use native.Mathlib.Numerals.{add-one}
 use lib.Dec.{ltb, eqb}
-use lib.ListN.{length, take, drop, set, getD, length-append, length-take, length-drop}
-use lib.Seq.{take-all, length-take-le, take-add, take-suc, take-suc-set, take-append-le}
+use lib.ListN.{length, take, drop, length-drop}
+use lib.Seq.{take-all, length-take-le, take-add}
 use borrow.Author.Tests.{lt-ltb, le-ltb, lt-leb, eqb-true}
 use Rattle.model.specs.declared.state.Exchange.{Exchange}
 use Rattle.model.specs.declared.answer.Outcome.{Outcome}
@@ -20,11 +20,10 @@ use Rattle.lines.specs.CallLines.{readingOf, lineIn, lineAt}
 use Rattle.lines.specs.Kept.{keptBytes}
 use Rattle.lines.proofs.KeptLaws.{kept}
 use Rattle.lines.specs.declared.call.LineAt.{LineAt}
-use Rattle.lines.specs.declared.call.Reading.{Reading}
 use Rattle.lines.specs.declared.call.Reading.the-variants.{NoCall}
 use Rattle.replay.specs.Lines.{outcomeOf, lineOutcome, lineText, lineRequestOf, takenOf}
 use Rattle.stream.specs.Days.{lastLine}
-use Rattle.stream.specs.Pieces.{Stream, lineEnd, lineMore, nextByte, byteText, after, textOf, StaysReachable}
+use Rattle.stream.specs.Pieces.{Stream, lineEnd, nextByte, byteText, after, textOf, StaysReachable}
 use Rattle.replay.proofs.LineRun.{reachable-line}
 
 -- ---- pieces put together

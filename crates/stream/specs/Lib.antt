@@ -1,2 +1,3 @@
 pub mod Days
 pub mod Pieces
+pub mod Examples

@@ -10,6 +10,7 @@ use Rattle.model.specs.State.{freshExchange}
 use Rattle.stream.specs.declared.Day.{Day}
 use Rattle.stream.specs.declared.Fed.{Fed}
 use Rattle.replay.specs.Lines.{lineOutcome, lineText}
+use Rattle.lines.specs.AnswerLength.{longestAnswer}
 use Rattle.lines.specs.CallLines.{lineIn}
 use Rattle.lines.specs.Kept.{keptBytes}
 use Rattle.model.specs.Run.{Reachable}
@@ -98,10 +99,6 @@ pub record Advanced (d : Day) (input out out′ : List ℕ) (r : Fed) : Type 0 w
   pub fits : r .wrote ≤ length out
   pub text : out′ ≡ textOf (streamOf d) (take (r .used) input) ++ drop (r .wrote) out
   pub state : streamOf (r .day) ≡ after (streamOf d) (take (r .used) input)
-
--- no answer line is longer
-abbrev pub longestAnswer : ℕ
-longestAnswer = 35
 
 -- the line that ends first
 abbrev pub firstLine : List ℕ → List ℕ

@@ -6,8 +6,7 @@ ghost use lib.ListN.{length, take};
 ghost use Rattle.model.specs.Run.{Reachable};
 ghost use Rattle.stream.specs.Days.{header as Days·header, lastLine};
 ghost use Rattle.stream.specs.Pieces.{streamOf, start, Advanced, FedBy, lastBytes};
-use replay::line::outcome_of;
-use replay::line::take_line;
+use lines::answer::LONGEST_ANSWER;
 use lines::answer::write_answer;
 use lines::call::line_end;
 use lines::call::read_line;
@@ -15,6 +14,8 @@ use lines::kept::KEPT_BYTES;
 use lines::kept::keep;
 use model::state::Exchange;
 use model::state::fresh;
+use replay::line::outcome_of;
+use replay::line::take_line;
 
 // Between two pieces: the state, how many lines were answered, and the first len bytes, at most 81, of the line that has begun. Lines are
 // no longer read once done is 4,294,967,295.
@@ -32,16 +33,37 @@ pub struct Fed {
     pub wrote: usize,
 }
 
-const LAST_LINE: u32 = 4_294_967_295;
-
-const LONGEST_ANSWER: usize = 35;
+// Lines are read until so many were answered.
+pub const LAST_LINE: u32 = 4_294_967_295;
 
 // The day's first line.
 pub fn header() -> [u8; 23]
     ensures { λ r. ⌜ r ≡ Days·header ⌝ }
 {
     [
-        b'l', b'i', b'n', b'e', b',', b'c', b'o', b'd', b'e', b',', b'f', b'i', b'r', b's', b't', b',', b's', b'e', b'c', b'o', b'n', b'd', b'\n',
+        b'l',
+        b'i',
+        b'n',
+        b'e',
+        b',',
+        b'c',
+        b'o',
+        b'd',
+        b'e',
+        b',',
+        b'f',
+        b'i',
+        b'r',
+        b's',
+        b't',
+        b',',
+        b's',
+        b'e',
+        b'c',
+        b'o',
+        b'n',
+        b'd',
+        b'\n',
     ]
 }
 

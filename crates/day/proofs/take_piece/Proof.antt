@@ -7,6 +7,7 @@ use lib.ListN.{length, take, drop, length-drop}
 use lib.Seq.{length-take-le, take-all}
 use Rattle.decimal.proofs.Put.{part-all}
 use Rattle.model.specs.Run.{Reachable}
+use Rattle.lines.specs.AnswerLength.{longestAnswer}
 use Rattle.stream.specs.Pieces.{Stream, streamOf, after}
 use Rattle.stream.proofs.StreamLaws.{next-piece, after-reachable}
 use Rattle.day.proofs.take_piece.Statement.{statement}
@@ -78,7 +79,7 @@ module _ (c : tie.After-feed Inv-loop μ-loop) where
       (at-loop .loop .inv .3)
       (c .feed .ensures .advanced .state)
 
-  some : at-loop .loop .from < length input → 35 ≤ length (at-loop .before .before .before .args .out .now) → 0 < c .feed .result .used
+  some : at-loop .loop .from < length input → longestAnswer ≤ length (at-loop .before .before .before .args .out .now) → 0 < c .feed .result .used
   unfolding at-loop input part
   some h room =
       c .feed .ensures .goes-on

@@ -11,7 +11,7 @@ use lib.Seq.{length-take-le}
 use lib.ListN.{length, take, drop, replicate, length-set}
 use borrow.Author.Needs.{needs}
 use borrow.Author.Tests.{lt-ltb, le-ltb, not-true, not-false}
-use Rattle.fields.specs.Grammar.{numbersOf, partsOf}
+use Rattle.fields.specs.Grammar.{allNumbers, partsOf}
 use Rattle.fields.specs.Fields.{fieldBytes, fieldsEnd, fieldsAt, withNumbers, commaAt}
 use Rattle.fields.proofs.Scan.{scan, scan-line, noFields, Ends, digit-step, digit-end, digit-bad, ends-at, comma-in, comma-step, comma-end, last-field, last-end, empty-field, ninth-field, stored-rest, stored-front, stored-fields}
 use Rattle.fields.proofs.read_fields.Statement.{statement}
@@ -29,7 +29,7 @@ abbrev Inv-line : tie.InvT-line
 Inv-line bytes from values₀ count₀ n i₀ good₀ values count i good =
     (good ≡ false) × (count ≤ 8) × (length values ≡ 8) × (drop count values ≡ replicate (8 - count) 0)
     × (fieldsEnd bytes from ≡ fieldsEnd bytes i)
-    × (numbersOf (partsOf (fieldBytes (drop from bytes))) ≡ scan (drop i bytes) (take count values) false 0)
+    × (allNumbers (partsOf (fieldBytes (drop from bytes))) ≡ scan (drop i bytes) (take count values) false 0)
 
 abbrev μ-line : tie.MeasureT-line
 μ-line bytes from values₀ count₀ n i₀ good₀ values count i good = n - i
@@ -42,12 +42,12 @@ loop-holds c =
     let i = c .line .i in
     (omega arith, refl, rw (le-ltb i i (omega arith)))
 
-shared-slice-read-with-digit :
-    tie.Need-shared-slice-read-with-digit Inv-loop μ-loop Inv-line μ-line
-shared-slice-read-with-digit c = c .before .loop-test .taken
+shared-slice-read-field-step :
+    tie.Need-shared-slice-read-field-step Inv-loop μ-loop Inv-line μ-line
+shared-slice-read-field-step c = c .before .loop-test .taken
 
-with-digit-requires : tie.Need-with-digit-requires Inv-loop μ-loop Inv-line μ-line
-with-digit-requires c κs = search needs
+field-step-requires : tie.Need-field-step-requires Inv-loop μ-loop Inv-line μ-line
+field-step-requires c κs = search needs
 
 enum-known-d : tie.Need-enum-known-d Inv-loop μ-loop Inv-line μ-line
 enum-known-d c = c .match .keys1
@@ -74,7 +74,7 @@ loop-again c =
     let bytes = looped .before .before .before .args .bytes .now in
     let ns = take (looped .before .line .count) (looped .before .line .values) in
     let inside : i < length bytes = called .before .before .loop-test .taken in
-    let told = sym (called .with-digit .ensures) ∙ c .before .d .given .1 in (
+    let told = sym (called .field-step .ensures) ∙ c .before .d .given .1 in (
       omega (arith, inv .0),
       inv .1 ∙ digit-end bytes i ns _ _ _ inside told,
       inv .2 ∙ digit-step bytes i ns _ _ _ inside told ∙ rw (lt-ltb start (i + 1) (omega (arith, inv .0))),
@@ -138,7 +138,7 @@ ends c =
     (c .loop-test .came)
 
 at-is : (bytes : List ℕ) (from stop : ℕ) (r : Option (List ℕ)) → fieldsEnd bytes from ≡ stop
-    → numbersOf (partsOf (fieldBytes (drop from bytes))) ≡ r → fieldsAt bytes from ≡ withNumbers stop r
+    → allNumbers (partsOf (fieldBytes (drop from bytes))) ≡ r → fieldsAt bytes from ≡ withNumbers stop r
 unfolding fieldsAt
 at-is bytes from stop r e q = rw (e, q)
 
@@ -236,8 +236,8 @@ read-fields-spec =
     μ-line
     line-holds
     loop-holds
-    shared-slice-read-with-digit
-    with-digit-requires
+    shared-slice-read-field-step
+    field-step-requires
     enum-known-d
     enum-told
     enum-told-2

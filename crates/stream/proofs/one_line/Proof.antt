@@ -1,4 +1,4 @@
-use mathlib.Core.Path.{_≡_, refl, sym, ap, _∙_}
+use mathlib.Core.Path.{_≡_, sym, ap, _∙_}
 use mathlib.Core.Logic.{⊎-elim}
 use mathlib.Core.List.{List, _++_}
 use Prim.Native.Nat.{ℕ, _+_, _≤_, _<_}
@@ -7,8 +7,9 @@ use native.Mathlib.Nat.{zero-add}
 use borrow.Author.Needs.{needs}
 use lib.ListN.{length, take, length-map}
 use lib.Seq.{length-take-le, take-all}
-use Rattle.decimal.specs.Buffer.{putAt, putInto}
+use Rattle.decimal.specs.Buffer.{putInto}
 use Rattle.decimal.proofs.Put.{put-short, put-at}
+use Rattle.lines.specs.AnswerLength.{longestAnswer}
 use Rattle.lines.specs.CallLines.{lineIn}
 use Rattle.replay.specs.declared.line.Taken.{Taken}
 use Rattle.stream.specs.declared.Day.{Day}
@@ -16,7 +17,7 @@ use Rattle.replay.specs.Lines.{lineText, takenOf}
 use Rattle.lines.specs.Kept.{keptBytes}
 use Rattle.replay.proofs.LineRun.{taken-short, taken-fits, taken-moved}
 use Rattle.stream.proofs.StreamLaws.{same-text, same-taken, line-front, line-within}
-use Rattle.stream.proofs.FeedLaws.{full, line-goes-on, line-waits, line-ends}
+use Rattle.stream.proofs.FeedLaws.{line-goes-on, line-waits, line-ends}
 use Rattle.stream.proofs.one_line.Statement.{statement}
 use Rattle.stream.proofs.one_line.Tie as tie
 
@@ -127,7 +128,7 @@ module _ (c : tie.After-take-line) where
   unfolding d input at-keep out
   put = c .take-line .ensures .1 .0 ∙ ap (putInto out) text-is
 
-  small : length text ≤ 35
+  small : length text ≤ longestAnswer
   unfolding d input at-keep
   small = omega (arith, c .take-line .ensures .1 .1, ap length text-is)
 

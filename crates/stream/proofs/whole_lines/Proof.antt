@@ -1,4 +1,4 @@
-use mathlib.Core.Path.{_≡_, refl, sym, ap, _∙_, subst}
+use mathlib.Core.Path.{_≡_, sym, ap, _∙_, subst}
 use mathlib.Core.List.{List, []}
 use Prim.Native.Nat.{ℕ, _+_, _-_, _≤_, _<_}
 use native.Mathlib.Omega.{arith}
@@ -9,6 +9,7 @@ use Rattle.decimal.specs.Buffer.{putAt, putInto, putCount}
 use Rattle.decimal.proofs.Put.{part-all, put-part, count-fits}
 use Rattle.model.specs.Run.{Reachable}
 use Rattle.model.specs.declared.answer.Outcome.{Outcome}
+use Rattle.lines.specs.AnswerLength.{longestAnswer}
 use Rattle.lines.specs.CallLines.{lineIn}
 use Rattle.replay.specs.Lines.{lineOutcome, lineText}
 use Rattle.replay.proofs.LineRun.{told, text-is, reachable-line}
@@ -86,9 +87,9 @@ module _ (c : tie.After-write-answer Inv-loop μ-loop) where
   text : List ℕ
   text = lineText (at-loop .loop .x) (at-loop .loop .done + 1) line
 
-  written : length text ≤ 35
+  written : length text ≤ longestAnswer
   unfolding at-loop text
-  written = subst (λ (t : List ℕ). length t ≤ 35) (text-is (at-loop .loop .x) (at-loop .loop .done + 1) line [] _ is) (c .write-answer .ensures .1 .1)
+  written = subst (λ (t : List ℕ). length t ≤ longestAnswer) (text-is (at-loop .loop .x) (at-loop .loop .done + 1) line [] _ is) (c .write-answer .ensures .1 .1)
 
   room : at-loop .loop .at + length text ≤ length (at-loop .loop .out)
   unfolding at-loop

@@ -9,6 +9,7 @@ use Rattle.units.specs.Decimal.{digits}
 use Rattle.decimal.proofs.Put.{put-short, count-short, Run, run-one, run-more, run-all}
 use Rattle.model.specs.declared.answer.Answer.{Answer}
 use Rattle.model.specs.Answers.{codeOf, firstOf, secondOf, answerLine}
+use Rattle.lines.specs.AnswerLength.{longestAnswer}
 use Rattle.lines.proofs.AnswerLines.{field, field-length, line-fields, fields-length, answer-bound}
 use Rattle.lines.proofs.answer.write_answer.Statement.{statement}
 use Rattle.lines.proofs.answer.write_answer.Tie as tie
@@ -91,7 +92,7 @@ module _ (c : tie.After-digit-count4) where
   long : length (answerLine number answer) ≡ total
   long = fields-length number answer code first second is-code is-first is-second ∙ sym counted
 
-  bound : length (answerLine number answer) ≤ 35
+  bound : length (answerLine number answer) ≤ longestAnswer
   unfolding number answer first second
   bound =
       answer-bound number answer
