@@ -4,17 +4,17 @@ ghost use mathlib.Core.Bool.{true};
 ghost use Prim.Native.Nat.{_≤_};
 ghost use lib.ListN.{length};
 ghost use Rattle.model.specs.Run.{Reachable};
-ghost use Rattle.lines.specs.AnswerLength.{longestAnswer};
+ghost use Rattle.lines.specs.AnswerText.{longestAnswer};
 ghost use Rattle.stream.specs.Pieces.{streamOf, after};
 use libc::STDERR_FILENO;
 use libc::STDIN_FILENO;
 use libc::STDOUT_FILENO;
+use lines::answer::header;
 use stream::Day;
 use stream::LAST_LINE;
 use stream::feed;
 use stream::finish;
 use stream::fresh_day;
-use stream::header;
 
 // The day after a piece of the input, and whether its answers were written.
 struct Step {

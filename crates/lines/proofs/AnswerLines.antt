@@ -11,7 +11,7 @@ use Rattle.model.specs.declared.answer.Refusal.{Refusal}
 use Rattle.model.specs.declared.answer.Refusal.the-variants as Refusal
 use Rattle.model.specs.declared.answer.Answer.{Answer}
 use Rattle.model.specs.declared.answer.Answer.the-variants.{Accepted, Refused}
-use Rattle.lines.specs.AnswerLength.{longestAnswer}
+use Rattle.lines.specs.AnswerText.{longestAnswer}
 use Rattle.model.specs.Answers.{refusalCode, codeOf, firstOf, secondOf, answerLine}
 
 -- a number and the byte that ends it

@@ -1,4 +1,4 @@
-pub mod AnswerLength
+pub mod AnswerText
 pub mod CallLines
 pub mod CallText
 pub mod Kept

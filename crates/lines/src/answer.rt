@@ -4,7 +4,8 @@ ghost use Prim.Native.Nat.{_≤_};
 ghost use lib.ListN.{length};
 ghost use Rattle.decimal.specs.Buffer.{putInto, putCount};
 ghost use Rattle.model.specs.Answers.{answerLine};
-ghost use Rattle.lines.specs.AnswerLength.{longestAnswer};
+ghost use Rattle.lines.specs.AnswerText.{longestAnswer};
+ghost use Rattle.lines.specs.AnswerText.{header as AnswerText·header};
 use decimal::digit_count;
 use decimal::write_field;
 use model::answer;
@@ -30,4 +31,35 @@ pub fn write_answer(out: &mut [u8], number: u32, a: Answer) -> usize
     let two = write_field(out, one, code, b',');
     let three = write_field(out, two, first, b',');
     write_field(out, three, second, b'\n')
+}
+
+// The line before the first answer.
+pub fn header() -> [u8; 23]
+    ensures { λ r. ⌜ r ≡ AnswerText·header ⌝ }
+{
+    [
+        b'l',
+        b'i',
+        b'n',
+        b'e',
+        b',',
+        b'c',
+        b'o',
+        b'd',
+        b'e',
+        b',',
+        b'f',
+        b'i',
+        b'r',
+        b's',
+        b't',
+        b',',
+        b's',
+        b'e',
+        b'c',
+        b'o',
+        b'n',
+        b'd',
+        b'\n',
+    ]
 }

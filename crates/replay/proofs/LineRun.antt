@@ -29,7 +29,7 @@ use Rattle.model.specs.WholeRun.{Whole, PaysOut, orderWith}
 use Rattle.model.proofs.WholeRun.{whole-run}
 use Rattle.lines.specs.declared.call.Reading.{Reading}
 use Rattle.lines.specs.declared.call.Reading.the-variants.{Read, NoCall}
-use Rattle.lines.specs.AnswerLength.{longestAnswer}
+use Rattle.lines.specs.AnswerText.{longestAnswer}
 use Rattle.lines.specs.CallLines.{readingOf}
 use Rattle.lines.specs.CallText.{lineOfCall}
 use Rattle.lines.proofs.RoundTrip.{call-round}

@@ -4,7 +4,7 @@ ghost use Prim.Native.Nat.{_≤_};
 ghost use lib.ListN.{length};
 ghost use Rattle.decimal.specs.Buffer.{putInto};
 ghost use Rattle.model.specs.Run.{Reachable};
-ghost use Rattle.lines.specs.AnswerLength.{longestAnswer};
+ghost use Rattle.lines.specs.AnswerText.{longestAnswer};
 ghost use Rattle.replay.specs.Lines.{outcomeOf, lineText, takenOf};
 use exchange::step;
 use lines::answer::write_answer;
@@ -44,6 +44,7 @@ pub fn take_line(x: Exchange, number: u32, line: &[u8], out: &mut [u8]) -> Taken
 {
     let o = outcome_of(x, read_call(line));
     let answer = o.answer;
+    let exchange = o.exchange;
     let used = write_answer(out, number, answer);
     if used == 0 {
         return Taken {
@@ -52,7 +53,6 @@ pub fn take_line(x: Exchange, number: u32, line: &[u8], out: &mut [u8]) -> Taken
             used: 0,
         };
     }
-    let exchange = o.exchange;
     Taken {
         answer,
         exchange,

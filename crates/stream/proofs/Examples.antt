@@ -14,7 +14,8 @@ use Rattle.model.specs.Run.{stepOf}
 use Rattle.fields.specs.Grammar.{numberOf, lineNumbers}
 use Rattle.lines.specs.CallLines.{ofKind, readingOf}
 use Rattle.replay.specs.Lines.{lineOutcome, lineText}
-use Rattle.stream.specs.Days.{header, dayOf}
+use Rattle.lines.specs.AnswerText.{header}
+use Rattle.stream.specs.Days.{dayOf}
 use Rattle.stream.specs.Examples.{paperInput, paperOutput, smallDays}
 
 pub paper-day : dayOf paperInput ≡ paperOutput

@@ -8,7 +8,7 @@ use lib.ListN.{length, take, drop, length-append, length-take, length-drop}
 use lib.Seq.{take-all, take-at, drop-append-add, drop-drop}
 use Rattle.decimal.specs.Buffer.{putAt}
 use Rattle.model.specs.declared.state.Exchange.{Exchange}
-use Rattle.lines.specs.AnswerLength.{longestAnswer}
+use Rattle.lines.specs.AnswerText.{longestAnswer}
 use Rattle.lines.specs.CallLines.{lineIn}
 use Rattle.stream.specs.declared.Day.{Day}
 use Rattle.stream.specs.declared.Fed.{Fed}

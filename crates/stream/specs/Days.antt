@@ -8,6 +8,7 @@ use lib.ListN.{length, take}
 use Rattle.model.specs.declared.state.Exchange.{Exchange}
 use Rattle.model.specs.State.{freshExchange}
 use Rattle.fields.specs.Grammar.{onFirst}
+use Rattle.lines.specs.AnswerText.{header}
 use Rattle.replay.specs.Lines.{LineRequest, lineOutcome, lineText, lineRequestOf, stateAfterLines}
 
 -- the lines of an input, without their bytes 10: "A last line without byte 10 counts if it has bytes"
@@ -19,11 +20,6 @@ linesOf (b ∷ bs) = cond (eqb b 10) ([] ∷ linesOf bs) (onFirst b (linesOf bs)
 abbrev pub answerText : Exchange → ℕ → List (List ℕ) → List ℕ
 answerText x n [] = []
 answerText x n (l ∷ ls) = lineText x (n + 1) l ++ answerText (lineOutcome x l .exchange) (n + 1) ls
-
--- "line,code,first,second" and byte 10
-abbrev pub header : List ℕ
-header =
-    108 ∷ 105 ∷ 110 ∷ 101 ∷ 44 ∷ 99 ∷ 111 ∷ 100 ∷ 101 ∷ 44 ∷ 102 ∷ 105 ∷ 114 ∷ 115 ∷ 116 ∷ 44 ∷ 115 ∷ 101 ∷ 99 ∷ 111 ∷ 110 ∷ 100 ∷ 10 ∷ []
 
 -- "It stops after line 4,294,967,295"
 abbrev pub lastLine : ℕ

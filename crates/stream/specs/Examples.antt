@@ -1,7 +1,7 @@
 -- Days computed: document 01's, and the smallest ones.
 use Prim.Native.Nat.{ℕ}
 use mathlib.Core.List.{List, [], _∷_, _++_}
-use Rattle.stream.specs.Days.{header}
+use Rattle.lines.specs.AnswerText.{header}
 
 -- its fourteen lines
 unfoldable pub paperInput : List ℕ

@@ -10,11 +10,11 @@ use Rattle.model.specs.State.{freshExchange}
 use Rattle.stream.specs.declared.Day.{Day}
 use Rattle.stream.specs.declared.Fed.{Fed}
 use Rattle.replay.specs.Lines.{lineOutcome, lineText}
-use Rattle.lines.specs.AnswerLength.{longestAnswer}
 use Rattle.lines.specs.CallLines.{lineIn}
 use Rattle.lines.specs.Kept.{keptBytes}
 use Rattle.model.specs.Run.{Reachable}
-use Rattle.stream.specs.Days.{header, dayOf, dayState, lastLine}
+use Rattle.lines.specs.AnswerText.{header, longestAnswer}
+use Rattle.stream.specs.Days.{dayOf, dayState, lastLine}
 
 -- ---- byte by byte
 

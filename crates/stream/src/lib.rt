@@ -4,7 +4,7 @@ ghost use mathlib.Core.List.{[], _++_};
 ghost use Prim.Native.Nat.{_≤_, _<_};
 ghost use lib.ListN.{length, take};
 ghost use Rattle.model.specs.Run.{Reachable};
-ghost use Rattle.stream.specs.Days.{header as Days·header, lastLine};
+ghost use Rattle.stream.specs.Days.{lastLine};
 ghost use Rattle.stream.specs.Pieces.{streamOf, start, Advanced, FedBy, lastBytes};
 use lines::answer::LONGEST_ANSWER;
 use lines::answer::write_answer;
@@ -35,37 +35,6 @@ pub struct Fed {
 
 // Lines are read until so many were answered.
 pub const LAST_LINE: u32 = 4_294_967_295;
-
-// The day's first line.
-pub fn header() -> [u8; 23]
-    ensures { λ r. ⌜ r ≡ Days·header ⌝ }
-{
-    [
-        b'l',
-        b'i',
-        b'n',
-        b'e',
-        b',',
-        b'c',
-        b'o',
-        b'd',
-        b'e',
-        b',',
-        b'f',
-        b'i',
-        b'r',
-        b's',
-        b't',
-        b',',
-        b's',
-        b'e',
-        b'c',
-        b'o',
-        b'n',
-        b'd',
-        b'\n',
-    ]
-}
 
 // The day before its first byte.
 pub fn fresh_day() -> Day

@@ -1,4 +1,4 @@
-use mathlib.Core.Path.{_≡_, sym, _∙_}
+use mathlib.Core.Path.{_≡_, refl, sym, _∙_}
 use Prim.Native.Nat.{_<_}
 use native.Mathlib.Omega.{arith}
 use native.Mathlib.Nat.{pos-of-ne-zero}
@@ -13,13 +13,13 @@ returns : tie.Need-returns
 returns c = none-begun _ _ (c .if1 .taken)
 
 slice-aggregate-feed : tie.Need-slice-aggregate-feed
-slice-aggregate-feed c = search needs
+slice-aggregate-feed c = refl
 
 feed-requires : tie.Need-feed-requires
 feed-requires c κs = c .before .before .before .before .before .pre
 
 same-length : tie.Need-same-length
-same-length c = search needs
+same-length c = c .before .before .feed .kept .1 .1 .0
 
 -- a line that has begun has bytes
 begun : (c : tie.Else1) → 0 < length (streamOf (c .before .before .before .args .d) .line)

@@ -9,7 +9,7 @@ use lib.ListN.{length, take, length-map}
 use lib.Seq.{length-take-le, take-all}
 use Rattle.decimal.specs.Buffer.{putInto}
 use Rattle.decimal.proofs.Put.{put-short, put-at}
-use Rattle.lines.specs.AnswerLength.{longestAnswer}
+use Rattle.lines.specs.AnswerText.{longestAnswer}
 use Rattle.lines.specs.CallLines.{lineIn}
 use Rattle.replay.specs.declared.line.Taken.{Taken}
 use Rattle.stream.specs.declared.Day.{Day}

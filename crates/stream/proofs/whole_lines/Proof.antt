@@ -9,7 +9,7 @@ use Rattle.decimal.specs.Buffer.{putAt, putInto, putCount}
 use Rattle.decimal.proofs.Put.{part-all, put-part, count-fits}
 use Rattle.model.specs.Run.{Reachable}
 use Rattle.model.specs.declared.answer.Outcome.{Outcome}
-use Rattle.lines.specs.AnswerLength.{longestAnswer}
+use Rattle.lines.specs.AnswerText.{longestAnswer}
 use Rattle.lines.specs.CallLines.{lineIn}
 use Rattle.replay.specs.Lines.{lineOutcome, lineText}
 use Rattle.replay.proofs.LineRun.{told, text-is, reachable-line}

@@ -9,7 +9,7 @@ use Rattle.units.specs.Decimal.{digits}
 use Rattle.decimal.proofs.Put.{put-short, count-short, Run, run-one, run-more, run-all}
 use Rattle.model.specs.declared.answer.Answer.{Answer}
 use Rattle.model.specs.Answers.{codeOf, firstOf, secondOf, answerLine}
-use Rattle.lines.specs.AnswerLength.{longestAnswer}
+use Rattle.lines.specs.AnswerText.{longestAnswer}
 use Rattle.lines.proofs.AnswerLines.{field, field-length, line-fields, fields-length, answer-bound}
 use Rattle.lines.proofs.answer.write_answer.Statement.{statement}
 use Rattle.lines.proofs.answer.write_answer.Tie as tie

@@ -14,7 +14,7 @@ enum-told : tie.Need-enum-told
 enum-told c = search needs
 
 refused-requires : tie.Need-refused-requires
-refused-requires c κs = search needs
+refused-requires c κs = tt
 
 returns : tie.Need-returns
 returns c = c .step .ensures ∙ sym (ap (outcomeOf (c .before .before .before .before .args .x)) (c .before .before .reading .given .1))
