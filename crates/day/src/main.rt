@@ -5,16 +5,16 @@ ghost use Prim.Native.Nat.{_≤_};
 ghost use lib.ListN.{length};
 ghost use Rattle.model.specs.Run.{Reachable};
 ghost use Rattle.lines.specs.AnswerText.{longestAnswer};
-ghost use Rattle.stream.specs.Pieces.{streamOf, after};
+ghost use Rattle.replay.specs.Pieces.{streamOf, after};
 use libc::STDERR_FILENO;
 use libc::STDIN_FILENO;
 use libc::STDOUT_FILENO;
 use lines::answer::header;
-use stream::Day;
-use stream::LAST_LINE;
+use replay::day::Day;
+use replay::day::LAST_LINE;
+use replay::day::fresh_day;
 use stream::feed;
 use stream::finish;
-use stream::fresh_day;
 
 // The day after a piece of the input, and whether its answers were written.
 struct Step {

@@ -23,7 +23,7 @@ fuel (suc f) (suc g) (suc m) p q =
 unfoldable pub lead : ℕ → List ℕ
 lead m = leading m m
 
-pub lead-zero : lead 0 ≡ []
+lead-zero : lead 0 ≡ []
 unfolding lead
 lead-zero = refl
 
@@ -57,6 +57,3 @@ lead-bound (suc f) (suc m) h =
 
 pub digits-bound : (n : ℕ) → n < 2 ^ 32 → length (digits n) ≤ 10
 digits-bound n h = omega (arith, digits-length n, lead-bound 9 (n / 10) (omega arith))
-
-pub digits-pos : (n : ℕ) → 0 < length (digits n)
-digits-pos n = omega (arith, digits-length n)

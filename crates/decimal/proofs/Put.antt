@@ -31,7 +31,7 @@ module _ (out text : List ℕ) where
   count-short h = rw (lt-leb _ _ h)
 
 -- a store at i, and what stands from i on
-pub drop-store : (l : List ℕ) (i a : ℕ) → i < length l → drop i (set l i a) ≡ a ∷ drop (suc i) l
+drop-store : (l : List ℕ) (i a : ℕ) → i < length l → drop i (set l i a) ≡ a ∷ drop (suc i) l
 drop-store [] i a h = absurd (not-suc-le-zero h)
 drop-store (x ∷ l) zero a h = refl
 drop-store (x ∷ l) (suc i) a h = drop-store l i a (le-of-suc-le-suc h)
@@ -45,7 +45,7 @@ joins before l i j a e h = rw (e, drop-store l i a h, append-assoc)
 pub part-all : (xs : List ℕ) (at : ℕ) → take (length xs - at) (drop at xs) ≡ drop at xs
 part-all xs at = take-all (length xs - at) (drop at xs) (omega (arith, length-drop at xs))
 
-pub part-none : (xs : List ℕ) (at : ℕ) → drop (length xs - at) (drop at xs) ≡ []
+part-none : (xs : List ℕ) (at : ℕ) → drop (length xs - at) (drop at xs) ≡ []
 part-none xs at = drop-of-length-le (drop at xs) {i = length xs - at} (omega (arith, length-drop at xs))
 
 -- text put into the part from at on, when the part is back
@@ -77,7 +77,7 @@ put-field xs d at e h =
     ∙ ap (λ (l : List ℕ). take at xs ++ l) (sym (append-assoc d (e ∷ []) _))
 
 -- text put after text is the two put at once
-pub put-put : (xs a b : List ℕ) (at : ℕ) → at + length a + length b ≤ length xs
+put-put : (xs a b : List ℕ) (at : ℕ) → at + length a + length b ≤ length xs
     → putAt (putAt xs at a) (at + length a) b ≡ putAt xs at (a ++ b)
 unfolding putAt
 put-put xs a b at h =
@@ -91,12 +91,6 @@ put-put xs a b at h =
     ∙ append-assoc (take at xs) a _
     ∙ ap (λ (l : List ℕ). take at xs ++ l) (sym (append-assoc a b _))
     ∙ ap (λ (k : ℕ). take at xs ++ ((a ++ b) ++ drop k xs)) (add-assoc at (length a) (length b) ∙ ap (λ (k : ℕ). at + k) (sym (length-append a b)))
-
-pub put-length : (xs a : List ℕ) (at : ℕ) → at + length a ≤ length xs → length (putAt xs at a) ≡ length xs
-unfolding putAt
-put-length xs a at h =
-    length-append (take at xs) _
-    ∙ omega (arith, length-take-le at xs (omega arith), length-append a (drop (at + length a) xs), length-drop (at + length a) xs)
 
 -- a run of texts put one after the other from the front: y has t, and p is its length
 pub record Run (xs t y : List ℕ) (p : ℕ) : Type 0 where

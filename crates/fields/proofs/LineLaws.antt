@@ -65,9 +65,6 @@ pub numbers-many : (stop : ℕ) (ns : List ℕ) → 8 < length ns
     → take (withNumbers stop (some ns) .count) (withNumbers stop (some ns) .values) ≡ []
 numbers-many stop ns h = rw (lt-leb _ _ h)
 
-pub numbers-none : (stop : ℕ) → take (withNumbers stop none .count) (withNumbers stop none .values) ≡ []
-numbers-none stop = refl
-
 -- its stop
 numbers-stop : (stop : ℕ) (m : Option (List ℕ)) → withNumbers stop m .stop ≡ stop
 numbers-stop stop none = refl

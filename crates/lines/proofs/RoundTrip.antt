@@ -19,7 +19,7 @@ use Rattle.model.specs.declared.call.Call.{Call}
 use Rattle.model.specs.declared.call.Call.the-variants.{Deposit, Withdraw, Order, Cancel, Open, Enter, Match, Bid, Settle, Claim}
 use Rattle.lines.specs.declared.call.Reading.the-variants.{Read, NoCall}
 use Rattle.lines.specs.CallLines.{ofKind, callOf, callOfNumbers, readingOf}
-use Rattle.lines.specs.CallText.{numbersOfCall, joinParts, lineOfNumbers, lineOfCall}
+use Rattle.lines.specs.CallText.{numbersOfCall, joinParts, lineOfNumbers, lineOfCall, Small, CallRound, LineRound}
 use Rattle.decimal.proofs.Digits.{digits-bound, lead, lead-none, lead-step, digits-step}
 use Rattle.lines.proofs.CallLaws.{deposit-is, withdraw-is, order-is, cancel-is, open-is, enter-is, match-is, bid-is, settle-is, claim-is, no-fields, no-one, no-two, no-three, no-four, no-five, no-six, no-seven}
 
@@ -92,7 +92,7 @@ number-text (d ∷ (g ∷ bs)) e =
     (λ t. absurd (eqb-false 0 0 (sym (rw t at e)) refl))
     (λ t. written-plain d (g ∷ bs) (eqb-false d 48 t) (rw t at e))
 
-pub number-written : (f : List ℕ) (n : ℕ) → numberOf f ≡ some n → digits n ≡ f
+number-written : (f : List ℕ) (n : ℕ) → numberOf f ≡ some n → digits n ≡ f
 unfolding numberOf
 number-written f n e =
     by-test
@@ -106,11 +106,11 @@ number-written f n e =
     differ : (a : ℕ) → _≡_ {A = Option ℕ} none (some a) → ⊥
     differ a p = let z : _≡_ {A = ℕ} 0 1 = cc in omega arith
 
-pub by-option : {A P : Type 0} (o : Option A) → (o ≡ none → P) → ((a : A) → o ≡ some a → P) → P
+by-option : {A P : Type 0} (o : Option A) → (o ≡ none → P) → ((a : A) → o ≡ some a → P) → P
 by-option none f g = f refl
 by-option (some a) f g = g a refl
 
-pub numbers-written : (ps : List (List ℕ)) (ns : List ℕ) → allNumbers ps ≡ some ns → map digits ns ≡ ps
+numbers-written : (ps : List (List ℕ)) (ns : List ℕ) → allNumbers ps ≡ some ns → map digits ns ≡ ps
 numbers-written [] ns e = ap (map digits) (same [] ns e)
   where
     same : (a b : List ℕ) → _≡_ {A = Option (List ℕ)} (some a) (some b) → b ≡ a
@@ -146,21 +146,21 @@ join-comma (b ∷ bs) = by-test (eqb b 44) (λ e. rw e) (λ e. rw e (on-first b 
     on-first b [] = refl
     on-first b (p ∷ ps) = refl
 
-pub partsOf-line : (line : List ℕ) → joinParts (partsOf line) ≡ line
-partsOf-line [] = refl
-partsOf-line (b ∷ bs) =
+parts-line : (line : List ℕ) → joinParts (partsOf line) ≡ line
+parts-line [] = refl
+parts-line (b ∷ bs) =
     by-test
     (eqb b 44)
-    (λ e. rw e (join-comma bs ∙ ap (λ (l : List ℕ). 44 ∷ l) (partsOf-line bs) ∙ ap (λ (x : ℕ). x ∷ bs) (sym (eqb-true b 44 e))))
-    (λ e. rw e (join-first b (partsOf bs) ∙ ap (λ (l : List ℕ). b ∷ l) (partsOf-line bs)))
+    (λ e. rw e (join-comma bs ∙ ap (λ (l : List ℕ). 44 ∷ l) (parts-line bs) ∙ ap (λ (x : ℕ). x ∷ bs) (sym (eqb-true b 44 e))))
+    (λ e. rw e (join-first b (partsOf bs) ∙ ap (λ (l : List ℕ). b ∷ l) (parts-line bs)))
 
 -- a line that the reader accepts is the line of its numbers
-pub read-written : (line ns : List ℕ) → lineNumbers line ≡ some ns → lineOfNumbers ns ≡ line
+read-written : (line ns : List ℕ) → lineNumbers line ≡ some ns → lineOfNumbers ns ≡ line
 unfolding lineNumbers lineOfNumbers
 read-written line ns e =
     by-test
     (leb (length line) longestLine)
-    (λ t. ap joinParts (numbers-written (partsOf line) ns (rw t at e)) ∙ partsOf-line line)
+    (λ t. ap joinParts (numbers-written (partsOf line) ns (rw t at e)) ∙ parts-line line)
     (λ t. absurd (differ ns (rw t at e)))
   where
     differ : (a : List ℕ) → _≡_ {A = Option (List ℕ)} none (some a) → ⊥
@@ -169,7 +169,7 @@ read-written line ns e =
 -- ---- written, then read
 
 -- a positive number's digits: the first is not 0, and they read as the number
-pub record Plain (m : ℕ) (l : List ℕ) : Type 0 where
+record Plain (m : ℕ) (l : List ℕ) : Type 0 where
   pub first : ℕ
   pub others : List ℕ
   pub is : l ≡ first ∷ others
@@ -208,7 +208,7 @@ zero-read : numberOf (digits 0) ≡ some 0
 unfolding numberOf digits
 zero-read = refl
 
-pub number-read : (n : ℕ) → n ≤ largest → numberOf (digits n) ≡ some n
+number-read : (n : ℕ) → n ≤ largest → numberOf (digits n) ≡ some n
 number-read n h =
     by-order 0 n
     (λ p.
@@ -241,11 +241,7 @@ partsOf-one : (ds : List ℕ) → allDigits ds ≡ true → partsOf ds ≡ ds �
 partsOf-one [] a = refl
 partsOf-one (d ∷ ds) a = rw (no-comma d (both d ds a .0)) (ap (onFirst d) (partsOf-one ds (both d ds a .1)))
 
-abbrev pub Small : List ℕ → Type 0
-Small [] = Unit {0}
-Small (n ∷ ns) = (n ≤ largest) × Small ns
-
-pub numbers-read : (n : ℕ) (ns : List ℕ) → Small (n ∷ ns) → allNumbers (partsOf (joinParts (map digits (n ∷ ns)))) ≡ some (n ∷ ns)
+numbers-read : (n : ℕ) (ns : List ℕ) → Small (n ∷ ns) → allNumbers (partsOf (joinParts (map digits (n ∷ ns)))) ≡ some (n ∷ ns)
 numbers-read n [] s = rw (partsOf-one (digits n) (digits-all n), number-read n (s .0))
 numbers-read n (m ∷ ns) s =
     rw (partsOf-more (digits n) (joinParts (map digits (m ∷ ns))) (digits-all n), number-read n (s .0), numbers-read m ns (s .1))
@@ -257,14 +253,14 @@ numbers-length n (m ∷ ns) s =
     (arith, digits-bound n (omega (arith, s .0)), numbers-length m ns (s .1), length-append (digits n) (44 ∷ joinParts (map digits (m ∷ ns))))
 
 -- what the writer makes of numbers reads as those numbers
-pub written-read : (n : ℕ) (ns : List ℕ) → Small (n ∷ ns) → length ns ≤ 6 → lineNumbers (lineOfNumbers (n ∷ ns)) ≡ some (n ∷ ns)
+written-read : (n : ℕ) (ns : List ℕ) → Small (n ∷ ns) → length ns ≤ 6 → lineNumbers (lineOfNumbers (n ∷ ns)) ≡ some (n ∷ ns)
 unfolding lineOfNumbers
 written-read n ns s h = line-short _ (omega (arith, numbers-length n ns s)) ∙ numbers-read n ns s
 
 -- ---- calls
 
 -- every number of the call is at most 4,294,967,295, as in a Call of the code
-pub call-round : (c : Call) → Small (numbersOfCall c) → readingOf (lineOfCall c) ≡ Read c
+pub call-round : CallRound
 unfolding lineOfCall readingOf ofKind
 call-round (Deposit a b c) s = ap callOfNumbers (written-read 1 (a ∷ (b ∷ (c ∷ []))) s (omega arith))
 call-round (Withdraw a b c) s = ap callOfNumbers (written-read 2 (a ∷ (b ∷ (c ∷ []))) s (omega arith))
@@ -287,7 +283,7 @@ no-read c e = let z : _≡_ {A = ℕ} 0 1 = cc in omega arith
 from-read : (ns : List ℕ) (c d : Call) → Read d ≡ Read c → numbersOfCall d ≡ ns → numbersOfCall c ≡ ns
 from-read ns c d e h = let same : c ≡ d = cc in ap numbersOfCall same ∙ h
 
-pub numbers-call : (ns : List ℕ) (c : Call) → callOf ns ≡ Read c → numbersOfCall c ≡ ns
+numbers-call : (ns : List ℕ) (c : Call) → callOf ns ≡ Read c → numbersOfCall c ≡ ns
 numbers-call [] c h = absurd (no-read c h)
 numbers-call (k ∷ []) c h = absurd (no-read c (no-fields k ∙ h))
 numbers-call (k ∷ (a ∷ [])) c h =
@@ -333,7 +329,7 @@ numbers-call (k ∷ (a ∷ (b ∷ (d ∷ (e ∷ (f ∷ (g ∷ []))))))) c h =
     absurd (no-read c (no-six k a b d e f g (eqb-false k 3 t0) (eqb-false k 8 t1) ∙ h))))
 numbers-call (k ∷ (a ∷ (b ∷ (d ∷ (e ∷ (f ∷ (g ∷ (i ∷ ns)))))))) c h = absurd (no-read c (no-seven k a b d e f g i ns ∙ h))
 
-pub line-round : (line : List ℕ) (c : Call) → readingOf line ≡ Read c → lineOfCall c ≡ line
+pub line-round : LineRound
 unfolding lineOfCall readingOf
 line-round line c e =
     by-option (lineNumbers line)

@@ -1,8 +1,12 @@
 -- The line that a call is written as, without its byte 10.
-use Prim.Native.Nat.{ℕ}
+use Prim.Native.Nat.{ℕ, _≤_}
+use mathlib.Core.Path.{_≡_}
 use mathlib.Core.List.{List, [], _∷_, _++_, map}
+use Rattle.units.specs.Counts.{largest}
 use Rattle.units.specs.Decimal.{digits}
 use Rattle.model.specs.declared.call.Call.{Call}
+use Rattle.lines.specs.declared.call.Reading.the-variants.{Read}
+use Rattle.lines.specs.CallLines.{readingOf}
 use Rattle.model.specs.declared.call.Call.the-variants.{Deposit, Withdraw, Order, Cancel, Open, Enter, Match, Bid, Settle, Claim}
 
 -- a call's kind number, and then its fields
@@ -29,3 +33,18 @@ lineOfNumbers ns = joinParts (map digits ns)
 
 unfoldable pub lineOfCall : Call → List ℕ
 lineOfCall c = lineOfNumbers (numbersOfCall c)
+
+-- ---- written and read
+
+-- no number above 4,294,967,295, as the fields of a call in code
+abbrev pub Small : List ℕ → Type 0
+Small [] = Unit {0}
+Small (n ∷ ns) = (n ≤ largest) × Small ns
+
+-- a call's line is read as that call
+abbrev pub CallRound : Type 0
+CallRound = (c : Call) → Small (numbersOfCall c) → readingOf (lineOfCall c) ≡ Read c
+
+-- and no other line is
+abbrev pub LineRound : Type 0
+LineRound = (line : List ℕ) (c : Call) → readingOf line ≡ Read c → lineOfCall c ≡ line

@@ -1,1 +1,4 @@
 pub mod LineRun
+pub mod StreamLaws
+pub mod DayText
+pub mod Examples

@@ -1,1 +1,4 @@
 pub mod Lines
+pub mod Days
+pub mod Pieces
+pub mod Examples

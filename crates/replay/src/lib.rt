@@ -1,2 +1,3 @@
-// A recorded day, line by line: one line taken, the state by value.
+// A recorded day: one line taken, the state by value; and the day between two pieces of its input.
+pub mod day;
 pub mod line;

@@ -2,7 +2,7 @@ use mathlib.Core.Path.{sym, ap, subst}
 use native.Mathlib.Omega.{arith}
 use borrow.Author.Needs.{needs}
 use Rattle.model.specs.Run.{Reachable, at-first}
-use Rattle.stream.specs.Pieces.{Stream}
+use Rattle.replay.specs.Pieces.{Stream}
 use Rattle.day.proofs.replay_day.Statement.{statement}
 use Rattle.day.proofs.replay_day.Tie as tie
 

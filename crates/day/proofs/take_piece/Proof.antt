@@ -8,8 +8,8 @@ use lib.Seq.{length-take-le, take-all}
 use Rattle.decimal.proofs.Put.{part-all}
 use Rattle.model.specs.Run.{Reachable}
 use Rattle.lines.specs.AnswerText.{longestAnswer}
-use Rattle.stream.specs.Pieces.{Stream, streamOf, after}
-use Rattle.stream.proofs.StreamLaws.{next-piece, after-reachable}
+use Rattle.replay.specs.Pieces.{Stream, streamOf, after}
+use Rattle.replay.proofs.StreamLaws.{next-piece, after-reachable}
 use Rattle.day.proofs.take_piece.Statement.{statement}
 use Rattle.day.proofs.take_piece.Tie as tie
 

@@ -1,7 +1,7 @@
 use native.Mathlib.Omega.{arith}
 use native.Mathlib.Nat.{pos-of-ne-zero}
 use borrow.Author.Needs.{needs}
-use Rattle.stream.proofs.FeedLaws.{untouched, fed-some, fed-same-out, fed-over}
+use Rattle.stream_parts.proofs.FeedLaws.{untouched, fed-some, fed-same-out, fed-over}
 use Rattle.stream.proofs.feed.Statement.{statement}
 use Rattle.stream.proofs.feed.Tie as tie
 

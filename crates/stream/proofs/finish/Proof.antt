@@ -4,8 +4,8 @@ use native.Mathlib.Omega.{arith}
 use native.Mathlib.Nat.{pos-of-ne-zero}
 use borrow.Author.Needs.{needs}
 use lib.ListN.{length, length-map, length-take}
-use Rattle.stream.specs.Pieces.{streamOf}
-use Rattle.stream.proofs.FeedLaws.{none-begun, some-begun, fed-same-bytes}
+use Rattle.replay.specs.Pieces.{streamOf}
+use Rattle.stream_parts.proofs.FeedLaws.{none-begun, some-begun, fed-same-bytes}
 use Rattle.stream.proofs.finish.Statement.{statement}
 use Rattle.stream.proofs.finish.Tie as tie
 

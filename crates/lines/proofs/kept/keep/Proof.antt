@@ -25,7 +25,7 @@ shared-slice-read-line : tie.Need-shared-slice-read-line Inv-loop μ-loop
 shared-slice-read-line c = omega (arith, c .before .before .loop-test .taken, c .before .before .before .before .pre)
 
 array-write-line : tie.Need-array-write-line Inv-loop μ-loop
-array-write-line c = c .before .if1 .taken
+array-write-line c = omega (arith, c .before .if1 .taken)
 
 add-len : tie.Need-add-len Inv-loop μ-loop
 add-len c = omega (arith, c .before .if1 .taken)
@@ -48,7 +48,7 @@ loop-again c =
       omega (arith, c .before .loop-test .taken),
       omega (arith, w .0 .taken),
       length-set (l .loop .line) (l .loop .len) (getD (a .input .now) (l .loop .i) 0) ∙ inv .2,
-      kept-more (take (a .before) (a .begun)) (a .input .now) (l .loop .line) (l .loop .len) (l .loop .i) inside (w .0 .taken) (inv .2) (inv .3),
+      kept-more (take (a .before) (a .begun)) (a .input .now) (l .loop .line) (l .loop .len) (l .loop .i) inside (omega (arith, w .0 .taken)) (inv .2) (inv .3),
     ))
     (λ w.
     rw (w .1, w .2) (

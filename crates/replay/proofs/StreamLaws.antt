@@ -21,10 +21,10 @@ use Rattle.lines.specs.Kept.{keptBytes}
 use Rattle.lines.proofs.KeptLaws.{kept}
 use Rattle.lines.specs.declared.call.LineAt.{LineAt}
 use Rattle.lines.specs.declared.call.Reading.the-variants.{NoCall}
 use Rattle.replay.specs.Lines.{outcomeOf, lineOutcome, lineText, lineRequestOf, takenOf}
-use Rattle.stream.specs.Days.{lastLine}
-use Rattle.stream.specs.Pieces.{Stream, lineEnd, nextByte, byteText, after, textOf, StaysReachable}
+use Rattle.replay.specs.Days.{lastLine}
+use Rattle.replay.specs.Pieces.{Stream, lineEnd, nextByte, byteText, after, textOf, StaysReachable}
 use Rattle.replay.proofs.LineRun.{reachable-line}
 
 -- ---- pieces put together
 

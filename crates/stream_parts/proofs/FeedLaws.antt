@@ -10,13 +10,13 @@ use Rattle.decimal.specs.Buffer.{putAt}
 use Rattle.model.specs.declared.state.Exchange.{Exchange}
 use Rattle.lines.specs.AnswerText.{longestAnswer}
 use Rattle.lines.specs.CallLines.{lineIn}
-use Rattle.stream.specs.declared.Day.{Day}
-use Rattle.stream.specs.declared.Fed.{Fed}
+use Rattle.replay.specs.declared.day.Day.{Day}
+use Rattle.replay.specs.declared.day.Fed.{Fed}
 use Rattle.replay.specs.Lines.{lineOutcome, lineText}
-use Rattle.stream.specs.Days.{lastLine}
+use Rattle.replay.specs.Days.{lastLine}
 use Rattle.lines.specs.Kept.{keptBytes}
-use Rattle.stream.specs.Pieces.{Stream, after, textOf, lastBytes, streamOf, Advanced, firstLine, FedBy}
-use Rattle.stream.proofs.StreamLaws.{after-append, text-append, begun, line-after, line-silent, ended-after, ended-text, line-front, line-ten, front-more, over-after, over-text}
+use Rattle.replay.specs.Pieces.{Stream, after, textOf, lastBytes, streamOf, Advanced, firstLine, FedBy}
+use Rattle.replay.proofs.StreamLaws.{after-append, text-append, begun, line-after, line-silent, ended-after, ended-text, line-front, line-ten, front-more, over-after, over-text}
 
 -- i bytes of the input are taken, s is the stream after them, and the first at bytes of the buffer are what they made the program write
 pub record SoFar (s₀ : Stream) (input out₀ : List ℕ) (i : ℕ) (s : Stream) (at : ℕ) (out : List ℕ) : Type 0 where

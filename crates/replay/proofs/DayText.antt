@@ -12,13 +12,13 @@ use Rattle.model.specs.State.{freshExchange}
 use borrow.Author.Tests.{le-ltb}
 use Rattle.fields.specs.Grammar.{onFirst}
 use Rattle.fields.proofs.Scan.{by-test, by-order, onAll, all-cons, all-snoc}
 use Rattle.replay.specs.Lines.{LineRequest, lineOutcome, lineText, lineRequestOf, stateAfterLines}
 use Rattle.lines.specs.AnswerText.{header}
-use Rattle.stream.specs.Days.{linesOf, answerText, lastLine, dayOf, numbered, writtenText, runText, DayIsRun}
+use Rattle.replay.specs.Days.{linesOf, answerText, lastLine, dayOf, numbered, writtenText, runText, DayIsRun}
 use Rattle.lines.specs.Kept.{keptBytes}
-use Rattle.stream.specs.Pieces.{Stream, start, nextByte, byteText, after, textOf, lastBytes, endText, ended, writtenBy, afterAll, joined, AnyCutting}
+use Rattle.replay.specs.Pieces.{Stream, start, nextByte, byteText, after, textOf, lastBytes, endText, ended, writtenBy, afterAll, joined, AnyCutting}
 use Rattle.replay.proofs.LineRun.{line-fits}
-use Rattle.stream.proofs.StreamLaws.{after-append, text-append, begun, end-byte, end-text, more-byte, more-text, over-after, over-text}
+use Rattle.replay.proofs.StreamLaws.{after-append, text-append, begun, end-byte, end-text, more-byte, more-text, over-after, over-text}
 
 -- ---- the answers that are still to come after n lines
 

@@ -12,14 +12,14 @@ use Rattle.decimal.proofs.Put.{put-short, put-at}
 use Rattle.lines.specs.AnswerText.{longestAnswer}
 use Rattle.lines.specs.CallLines.{lineIn}
 use Rattle.replay.specs.declared.line.Taken.{Taken}
-use Rattle.stream.specs.declared.Day.{Day}
+use Rattle.replay.specs.declared.day.Day.{Day}
 use Rattle.replay.specs.Lines.{lineText, takenOf}
 use Rattle.lines.specs.Kept.{keptBytes}
 use Rattle.replay.proofs.LineRun.{taken-short, taken-fits, taken-moved}
-use Rattle.stream.proofs.StreamLaws.{same-text, same-taken, line-front, line-within}
-use Rattle.stream.proofs.FeedLaws.{line-goes-on, line-waits, line-ends}
-use Rattle.stream.proofs.one_line.Statement.{statement}
-use Rattle.stream.proofs.one_line.Tie as tie
+use Rattle.replay.proofs.StreamLaws.{same-text, same-taken, line-front, line-within}
+use Rattle.stream_parts.proofs.FeedLaws.{line-goes-on, line-waits, line-ends}
+use Rattle.stream_parts.proofs.one_line.Statement.{statement}
+use Rattle.stream_parts.proofs.one_line.Tie as tie
 
 line-end-requires : tie.Need-line-end-requires
 line-end-requires c κs = tt

@@ -2,8 +2,8 @@ use mathlib.Core.Path.{ap}
 use mathlib.Core.List.{[]}
 use borrow.Author.Needs.{needs}
 use Rattle.model.specs.declared.state.Exchange.{Exchange}
-use Rattle.stream.proofs.fresh_day.Statement.{statement}
-use Rattle.stream.proofs.fresh_day.Tie as tie
+use Rattle.replay.proofs.day.fresh_day.Statement.{statement}
+use Rattle.replay.proofs.day.fresh_day.Tie as tie
 
 fresh-requires : tie.Need-fresh-requires
 fresh-requires c κs = search needs

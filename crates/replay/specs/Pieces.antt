@@ -7,14 +7,14 @@ use lib.Dec.{ltb, eqb}
 use lib.ListN.{length, take, drop}
 use Rattle.model.specs.declared.state.Exchange.{Exchange}
 use Rattle.model.specs.State.{freshExchange}
-use Rattle.stream.specs.declared.Day.{Day}
-use Rattle.stream.specs.declared.Fed.{Fed}
+use Rattle.replay.specs.declared.day.Day.{Day}
+use Rattle.replay.specs.declared.day.Fed.{Fed}
 use Rattle.replay.specs.Lines.{lineOutcome, lineText}
 use Rattle.lines.specs.CallLines.{lineIn}
 use Rattle.lines.specs.Kept.{keptBytes}
 use Rattle.model.specs.Run.{Reachable}
 use Rattle.lines.specs.AnswerText.{header, longestAnswer}
-use Rattle.stream.specs.Days.{dayOf, dayState, lastLine}
+use Rattle.replay.specs.Days.{dayOf, dayState, lastLine}
 
 -- ---- byte by byte
 

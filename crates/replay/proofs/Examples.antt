@@ -13,10 +13,10 @@ use Rattle.model.specs.Calls.{depositOf, withdrawOf, orderOf, cancelOf, openOf,
 use Rattle.model.specs.Run.{stepOf}
 use Rattle.fields.specs.Grammar.{numberOf, lineNumbers}
 use Rattle.lines.specs.CallLines.{ofKind, readingOf}
 use Rattle.replay.specs.Lines.{lineOutcome, lineText}
 use Rattle.lines.specs.AnswerText.{header}
-use Rattle.stream.specs.Days.{dayOf}
-use Rattle.stream.specs.Examples.{paperInput, paperOutput, smallDays}
+use Rattle.replay.specs.Days.{dayOf}
+use Rattle.replay.specs.Examples.{paperInput, paperOutput, smallDays}
 
 pub paper-day : dayOf paperInput ≡ paperOutput
 unfolding paperInput paperOutput dayOf lineOutcome lineText readingOf ofKind lineNumbers numberOf answerLine digits stepOf depositOf withdrawOf orderOf cancelOf openOf enterOf matchOf bidOf settleOf claimOf highBound lowBound matchBase matchQuote tradeWithin auctionPrice quoteFor sharePaid shareGot down up sumTo bit inserted removed countOf cellOf withCell creditedRow debitedRow rowOf withRow balanceIn credited debited freshLedger

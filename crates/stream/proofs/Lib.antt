@@ -1,4 +1,0 @@
-pub mod StreamLaws
-pub mod FeedLaws
-pub mod DayText
-pub mod Examples
