@@ -117,7 +117,7 @@ fn take_last(d: Day, out: &mut [u8]) -> bool
     io::write_all(STDOUT_FILENO, &out[..wrote])
 }
 
-// Replays the day after its header. How it ended is told.
+// Replays the day after its header. Answers how it ended.
 fn replay_day() -> End {
     let mut out = io::large_buffer();
     let ended = take_all(fresh_day(), &mut out);

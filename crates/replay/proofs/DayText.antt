@@ -5,7 +5,8 @@ use Prim.Native.Nat.{ℕ, zero, suc, _+_, _-_, _≤_, _<_}
 use native.Mathlib.Omega.{arith}
 use native.Mathlib.Nat.{sub-eq-zero-of-le, le-refl}
 use lib.Dec.{eqb}
-use lib.ListN.{length, take}
+use lib.ListN.{length, take, drop, take-append-drop}
+use lib.Seq.{take-at, take-all}
 use Rattle.model.specs.declared.state.Exchange.{Exchange}
 use Rattle.model.specs.declared.answer.Outcome.{Outcome}
 use Rattle.model.specs.State.{freshExchange}
@@ -16,7 +17,9 @@ use Rattle.replay.specs.Lines.{LineRequest, lineOutcome, lineText, lineR
 use Rattle.lines.specs.AnswerText.{header}
 use Rattle.replay.specs.Days.{linesOf, answerText, lastLine, dayOf, numbered, writtenText, runText, DayIsRun}
 use Rattle.lines.specs.Kept.{keptBytes}
-use Rattle.replay.specs.Pieces.{Stream, start, nextByte, byteText, after, textOf, lastBytes, endText, ended, writtenBy, afterAll, joined, AnyCutting}
+use Rattle.replay.specs.declared.day.Day.{Day}
+use Rattle.replay.specs.declared.day.Fed.{Fed}
+use Rattle.replay.specs.Pieces.{Stream, start, nextByte, byteText, after, textOf, lastBytes, endText, ended, writtenBy, afterAll, joined, AnyCutting, streamOf, Advanced, Feeding, nothing-fed, then-fed, FedIsDay}
 use Rattle.replay.proofs.LineRun.{line-fits}
 use Rattle.replay.proofs.StreamLaws.{after-append, text-append, begun, end-byte, end-text, more-byte, more-text, over-after, over-text}
 
@@ -199,3 +202,49 @@ runs x n (l ∷ ls) =
 pub day-is-run : DayIsRun
 unfolding dayOf
 day-is-run input = ap (λ (t : List ℕ). header ++ t) (runs freshExchange 0 (take lastLine (linesOf input)))
+
+-- ---- fed in pieces, with any buffers
+
+-- what one feeding wrote
+fed-text : (d : Day) (input out out′ : List ℕ) (r : Fed) → Advanced d input out out′ r → take (r .wrote) out′ ≡ textOf (streamOf d) (take (r .used) input)
+fed-text d input out out′ r a =
+    ap (take (r .wrote)) (a .text) ∙ take-at (textOf (streamOf d) (take (r .used) input)) (drop (r .wrote) out) (r .wrote) (sym (a .count))
+
+record Fed-so (d d′ : Day) (input text : List ℕ) : Type 0 where
+  pub text-is : text ≡ textOf (streamOf d) input
+  pub state-is : streamOf d′ ≡ after (streamOf d) input
+
+fed-more : (d d′ : Day) (piece more text out out′ : List ℕ) (r : Fed) → Advanced d piece out out′ r → Fed-so (r .day) d′ (drop (r .used) piece ++ more) text
+    → Fed-so d d′ (piece ++ more) (take (r .wrote) out′ ++ text)
+fed-more d d′ piece more text out out′ r a f =
+    let front : List ℕ = take (r .used) piece in
+    let rest : List ℕ = drop (r .used) piece ++ more in
+    let all : piece ++ more ≡ front ++ rest =
+    ap (λ (l : List ℕ). l ++ more) (sym (take-append-drop (r .used) piece)) ∙ append-assoc front (drop (r .used) piece) more in
+    record {
+      text-is =
+          ap (λ (t : List ℕ). t ++ text) (fed-text d piece out out′ r a)
+          ∙ ap (λ (t : List ℕ). textOf (streamOf d) front ++ t) (f .text-is ∙ ap (λ (s : Stream). textOf s rest) (a .state))
+          ∙ sym (ap (textOf (streamOf d)) all ∙ text-append (streamOf d) front rest);
+      state-is =
+          f .state-is
+          ∙ ap (λ (s : Stream). after s rest) (a .state)
+          ∙ sym (ap (after (streamOf d)) all ∙ after-append (streamOf d) front rest);
+    }
+
+fed-so : {d d′ : Day} {input text : List ℕ} → Feeding d input text d′ → Fed-so d d′ input text
+fed-so (nothing-fed d) = record { text-is = refl; state-is = refl }
+fed-so (then-fed d d′ piece more text out out′ r a f) = fed-more d d′ piece more text out out′ r a (fed-so f)
+
+pub fed-is-day : FedIsDay
+fed-is-day d₀ d input text out out′ r e f a all =
+    let g : Fed-so d₀ d input text = fed-so f in
+    let last : take (r .used) (lastBytes (streamOf d .line)) ≡ lastBytes (streamOf d .line) =
+    take-all (r .used) (lastBytes (streamOf d .line)) (omega (arith, all)) in
+    let here : streamOf d ≡ after start input = g .state-is ∙ ap (λ (s : Stream). after s input) e in (
+      ap (λ (t : List ℕ). header ++ (t ++ take (r .wrote) out′)) (g .text-is ∙ ap (λ (s : Stream). textOf s input) e)
+          ∙ ap (λ (t : List ℕ). header ++ (textOf start input ++ t))
+          (fed-text d (lastBytes (streamOf d .line)) out out′ r a ∙ ap (textOf (streamOf d)) last ∙ ap endText here)
+          ∙ day-is input,
+      ap (λ (s : Stream). s .exchange) (a .state ∙ ap (after (streamOf d)) last ∙ ap ended here) ∙ whole-state input [] freshExchange 0,
+    )

@@ -39,7 +39,7 @@ use Rattle.replay.specs.Lines.{outcomeOf, lineOutcome, lineText, LineReq
 
 -- ---- one line
 
--- a line that calls can take leaves a state that calls can leave
+-- a line taken in a state that calls can leave leaves one
 reachable-reading : (x : Exchange) → Reachable x → (r : Reading) → Reachable (outcomeOf x r .exchange)
 reachable-reading x l (Read c) = after-call l c
 reachable-reading x l NoCall = l
@@ -72,7 +72,7 @@ line-none x q e =
     ap (λ (r : Reading). fitted x (q .number) (q .room) (outcomeOf x r) .exchange) e
     ∙ stays x (ltb (q .room) (length (answerLine (q .number) (Refused MalformedLine)))) BufferTooShort MalformedLine
 
-pub by-reading {ℓ} : {P : Type ℓ} (r : Reading) → ((c : Call) → r ≡ Read c → P) → (r ≡ NoCall → P) → P
+by-reading {ℓ} : {P : Type ℓ} (r : Reading) → ((c : Call) → r ≡ Read c → P) → (r ≡ NoCall → P) → P
 by-reading (Read c) f g = f c refl
 by-reading NoCall f g = g refl
 
@@ -131,9 +131,6 @@ module _ (x : Exchange) (n : ℕ) (l xs : List ℕ) (o : Outcome) (is : o ≡ li
   unfolding lineText
   text-is = ap (λ (v : Outcome). answerLine n (v .answer)) is
 
-  text-some : 0 < length (lineText x n l)
-  text-some = subst (λ (t : List ℕ). 0 < length t) text-is (answer-pos n (o .answer))
-
   pub take-put : (ys : List ℕ) → ys ≡ putInto xs (answerLine n (o .answer)) → ys ≡ putInto xs (lineText x n l)
   take-put ys e = e ∙ ap (putInto xs) text-is
 
@@ -148,7 +145,7 @@ module _ (x : Exchange) (n : ℕ) (l xs : List ℕ) (o : Outcome) (is : o ≡ li
     unfolding takenOf
     take-short e =
         let q : LineRequest = record { number = n; room = length xs; line = l } in
-        let short : length xs < length (lineText x n l) = count-none xs (lineText x n l) text-some (sym counted ∙ e) in
+        let short : length xs < length (lineText x n l) = count-none xs (lineText x n l) (some-text x n l (length xs)) (sym counted ∙ e) in
         sym (rw (line-short x q short, lt-ltb _ _ short))
 
     pub take-fits : (used ≡ 0 → ⊥) → _≡_ {A = Taken} (record { answer = o .answer; exchange = o .exchange; used = used }) (takenOf x n l (length xs))

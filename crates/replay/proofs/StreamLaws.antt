@@ -9,12 +9,12 @@ use native.Mathlib.Numerals.{add-one}
 use lib.Dec.{ltb, eqb}
 use lib.ListN.{length, take, drop, length-drop}
 use lib.Seq.{take-all, length-take-le, take-add}
-use borrow.Author.Tests.{lt-ltb, le-ltb, lt-leb, eqb-true}
+use borrow.Author.Tests.{lt-ltb, le-ltb, eqb-true}
 use Rattle.model.specs.declared.state.Exchange.{Exchange}
 use Rattle.model.specs.declared.answer.Outcome.{Outcome}
 use Rattle.model.specs.Answers.{answerLine}
 use Rattle.model.specs.Run.{Reachable, fitted}
-use Rattle.fields.specs.Grammar.{lineNumbers}
+use Rattle.fields.proofs.LineLaws.{line-long}
 use Rattle.fields.proofs.Scan.{by-test, by-order}
 use Rattle.lines.specs.CallLines.{readingOf, lineIn, lineAt}
 use Rattle.lines.specs.Kept.{keptBytes}
@@ -23,7 +23,7 @@ use Rattle.lines.specs.declared.call.LineAt.{LineAt}
 use Rattle.lines.specs.declared.call.Reading.the-variants.{NoCall}
 use Rattle.replay.specs.Lines.{outcomeOf, lineOutcome, lineText, lineRequestOf, takenOf}
 use Rattle.replay.specs.Days.{lastLine}
-use Rattle.replay.specs.Pieces.{Stream, lineEnd, nextByte, byteText, after, textOf, StaysReachable}
+use Rattle.replay.specs.Pieces.{Stream, endLine, nextByte, byteText, after, textOf, StaysReachable}
 use Rattle.replay.proofs.LineRun.{reachable-line}
 
 -- ---- pieces put together
@@ -40,8 +40,8 @@ text-append s (x ∷ a) b =
 -- ---- the line that is kept: 81 bytes do what the whole line does
 
 too-long : (p : List ℕ) → 80 < length p → readingOf p ≡ NoCall
-unfolding readingOf lineNumbers
-too-long p h = rw (lt-leb _ _ h)
+unfolding readingOf
+too-long p h = rw (line-long p h)
 
 same-reading : (p : List ℕ) → readingOf (take keptBytes p) ≡ readingOf p
 same-reading p =
@@ -49,7 +49,7 @@ same-reading p =
     (λ h. too-long (take 81 p) (omega (arith, length-take-le 81 p (omega arith))) ∙ sym (too-long p (omega arith)))
     (λ h. ap readingOf (take-all 81 p h))
 
-pub same-outcome : (x : Exchange) (p : List ℕ) → lineOutcome x (take keptBytes p) ≡ lineOutcome x p
+same-outcome : (x : Exchange) (p : List ℕ) → lineOutcome x (take keptBytes p) ≡ lineOutcome x p
 unfolding lineOutcome
 same-outcome x p = ap (outcomeOf x) (same-reading p)
 
@@ -74,7 +74,7 @@ begun x n p = record { exchange = x; done = n; line = take keptBytes p }
 module _ (x : Exchange) (n : ℕ) (p : List ℕ) where
   -- a byte 10
   pub end-byte : n < lastLine → (b : ℕ) → eqb b 10 ≡ true → nextByte (begun x n p) b ≡ begun (lineOutcome x p .exchange) (n + 1) []
-  unfolding nextByte lineEnd
+  unfolding nextByte endLine
   end-byte h b e = rw (lt-ltb n lastLine h, e) (ap (λ (o : Outcome). begun (o .exchange) (n + 1) []) (same-outcome x p))
 
   pub end-text : n < lastLine → (b : ℕ) → eqb b 10 ≡ true → byteText (begun x n p) b ≡ lineText x (n + 1) p
@@ -183,10 +183,6 @@ module _ (l : LineAt) (bytes : List ℕ) (from : ℕ) (is : l ≡ lineAt bytes f
 pub line-inside : (bytes : List ℕ) (from : ℕ) → from ≤ length bytes → from + length (lineIn (drop from bytes)) ≤ length bytes
 line-inside bytes from h = omega (arith, line-within (drop from bytes), length-drop from bytes)
 
--- from place i on
-pub front-more : (input : List ℕ) (i k : ℕ) → take (i + k) input ≡ take i input ++ take k (drop i input)
-front-more input i k = take-add i k input
-
 -- ---- pieces of an input fed one after the other: s is the stream after the bytes before from, and s′ after used bytes more
 
 pub next-piece : (s₀ s s′ : Stream) (input part : List ℕ) (from used : ℕ) → part ≡ drop from input → s ≡ after s₀ (take from input) → s′ ≡ after s (take used part)
@@ -195,12 +191,12 @@ next-piece s₀ s s′ input part from used p e f =
     f
     ∙ ap (λ (v : Stream). after v (take used part)) e
     ∙ ap (λ (l : List ℕ). after (after s₀ (take from input)) (take used l)) p
-    ∙ sym (ap (after s₀) (front-more input from used) ∙ after-append s₀ (take from input) (take used (drop from input)))
+    ∙ sym (ap (after s₀) (take-add from used input) ∙ after-append s₀ (take from input) (take used (drop from input)))
 
 -- ---- states that calls can leave
 
 byte-reachable : (s : Stream) → Reachable (s .exchange) → (b : ℕ) → Reachable (nextByte s b .exchange)
-unfolding nextByte lineEnd
+unfolding nextByte endLine
 byte-reachable s l b =
     by-test (ltb (s .done) lastLine)
     (λ e. rw e (by-test (eqb b 10) (λ t. rw t (reachable-line (s .exchange) l (s .line))) (λ t. rw t l)))

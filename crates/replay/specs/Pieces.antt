@@ -28,15 +28,15 @@ abbrev pub start : Stream
 start = record { exchange = freshExchange; done = 0; line = [] }
 
 -- the line ends
-unfoldable pub lineEnd : Stream → Stream
-lineEnd s = record { exchange = lineOutcome (s .exchange) (s .line) .exchange; done = s .done + 1; line = [] }
+unfoldable pub endLine : Stream → Stream
+endLine s = record { exchange = lineOutcome (s .exchange) (s .line) .exchange; done = s .done + 1; line = [] }
 
 abbrev pub lineMore : Stream → ℕ → Stream
 lineMore s b = record { exchange = s .exchange; done = s .done; line = take keptBytes (s .line ++ (b ∷ [])) }
 
 -- one byte; after the last line nothing is read
 unfoldable pub nextByte : Stream → ℕ → Stream
-nextByte s b = cond (ltb (s .done) lastLine) (cond (eqb b 10) (lineEnd s) (lineMore s b)) s
+nextByte s b = cond (ltb (s .done) lastLine) (cond (eqb b 10) (endLine s) (lineMore s b)) s
 
 unfoldable pub byteText : Stream → ℕ → List ℕ
 byteText s b = cond (ltb (s .done) lastLine) (cond (eqb b 10) (lineText (s .exchange) (s .done + 1) (s .line)) []) []
@@ -110,3 +110,19 @@ pub record FedBy (d : Day) (input out out′ : List ℕ) (r : Fed) : Type 0 wher
   pub advanced : Advanced d input out out′ r
   pub stops : r .used ≡ 0 → 0 < length input → length out < length (textOf (streamOf d) (firstLine input))
   pub goes-on : 0 < length input → longestAnswer ≤ length out → 0 < r .used
+
+-- ---- a whole day fed
+
+-- bytes fed from day d on, in pieces of any size with any buffers, of which each feeding takes what it takes; what was written for them; and the day after them
+pub data Feeding : Day → List ℕ → List ℕ → Day → Type 0 where
+  nothing-fed : (d : Day) → Feeding d [] [] d
+  then-fed :
+      (d d′ : Day) (piece more text out out′ : List ℕ) (r : Fed) → Advanced d piece out out′ r → Feeding (r .day) (drop (r .used) piece ++ more) text d′
+      → Feeding d (piece ++ more) (take (r .wrote) out′ ++ text) d′
+
+-- whatever was fed from a fresh day on, and a last line then finished: the answers are the day's text after its header, and the state is the day's
+abbrev pub FedIsDay : Type 0
+FedIsDay =
+    (d₀ d : Day) (input text out out′ : List ℕ) (r : Fed) → streamOf d₀ ≡ start → Feeding d₀ input text d → Advanced d (lastBytes (streamOf d .line)) out out′ r
+    → r .used ≡ length (lastBytes (streamOf d .line))
+    → (header ++ (text ++ take (r .wrote) out′) ≡ dayOf input) × (r .day .exchange ≡ dayState input)

@@ -5,7 +5,7 @@ use Prim.Native.Nat.{ℕ, _+_, _≤_, _<_}
 use native.Mathlib.Omega.{arith}
 use native.Mathlib.Nat.{add-assoc, ne-of-gt, le-refl, not-le-of-lt, not-suc-le-zero, lt-of-lt-of-le}
 use lib.ListN.{length, take, drop, length-append, length-take, length-drop}
-use lib.Seq.{take-all, take-at, drop-append-add, drop-drop}
+use lib.Seq.{take-add, take-all, take-at, drop-append-add, drop-drop}
 use Rattle.decimal.specs.Buffer.{putAt}
 use Rattle.model.specs.declared.state.Exchange.{Exchange}
 use Rattle.lines.specs.AnswerText.{longestAnswer}
@@ -16,7 +16,7 @@ use Rattle.replay.specs.Lines.{lineOutcome, lineText}
 use Rattle.replay.specs.Days.{lastLine}
 use Rattle.lines.specs.Kept.{keptBytes}
 use Rattle.replay.specs.Pieces.{Stream, after, textOf, lastBytes, streamOf, Advanced, firstLine, FedBy}
-use Rattle.replay.proofs.StreamLaws.{after-append, text-append, begun, line-after, line-silent, ended-after, ended-text, line-front, line-ten, front-more, over-after, over-text}
+use Rattle.replay.proofs.StreamLaws.{after-append, text-append, begun, line-after, line-silent, ended-after, ended-text, line-front, line-ten, over-after, over-text}
 
 -- i bytes of the input are taken, s is the stream after them, and the first at bytes of the buffer are what they made the program write
 pub record SoFar (s₀ : Stream) (input out₀ : List ℕ) (i : ℕ) (s : Stream) (at : ℕ) (out : List ℕ) : Type 0 where
@@ -38,7 +38,7 @@ unfolding putAt
 put-nothing out = refl
 
 -- bytes p more, which write t
-pub so-far-more : (s₀ : Stream) (input out₀ : List ℕ) (i : ℕ) (s : Stream) (at : ℕ) (out : List ℕ) → SoFar s₀ input out₀ i s at out
+so-far-more : (s₀ : Stream) (input out₀ : List ℕ) (i : ℕ) (s : Stream) (at : ℕ) (out : List ℕ) → SoFar s₀ input out₀ i s at out
     → (j : ℕ) (p t : List ℕ) (s′ : Stream) (at′ : ℕ) (out′ : List ℕ)
     → take j input ≡ take i input ++ p → after s p ≡ s′ → textOf s p ≡ t → at + length t ≤ length out₀ → at′ ≡ at + length t → out′ ≡ putAt out at t
     → SoFar s₀ input out₀ j s′ at′ out′
@@ -73,7 +73,7 @@ module _ (s₀ : Stream) (input out₀ : List ℕ) (i : ℕ) (x : Exchange) (n a
     bytes =
         ap (λ (k : ℕ). take (k + 1) input) ends
         ∙ ap (λ (k : ℕ). take k input) (add-assoc i (length (lineIn (drop i input))) 1)
-        ∙ front-more input i (length (lineIn (drop i input)) + 1)
+        ∙ take-add i (length (lineIn (drop i input)) + 1) input
         ∙ ap (λ (l : List ℕ). take i input ++ l) (line-ten (drop i input) (omega (arith, ends, whole, length-drop i input)))
 
     pub so-far-line : (x′ : Exchange) (at′ : ℕ) (out′ : List ℕ) → x′ ≡ lineOutcome x (lineIn (drop i input)) .exchange → at + length answer ≤ length out₀
@@ -114,7 +114,7 @@ module _ (d : Day) (input : List ℕ) (lines-left : d .done < lastLine) (places 
   full-after : after (streamOf d) (firstLine input) ≡ begun (lineOutcome (d .exchange) full .exchange) (d .done + 1) []
   full-after = ap (λ (s : Stream). after s (firstLine input)) (sym here) ∙ ended-after (d .exchange) (d .done) lines-left input so-far
 
-  pub full-text : textOf (streamOf d) (firstLine input) ≡ lineText (d .exchange) (d .done + 1) full
+  full-text : textOf (streamOf d) (firstLine input) ≡ lineText (d .exchange) (d .done + 1) full
   full-text = ap (λ (s : Stream). textOf s (firstLine input)) (sym here) ∙ ended-text (d .exchange) (d .done) lines-left input so-far
 
   -- the line does not end in the input

@@ -16,7 +16,7 @@ use replay::day::LAST_LINE;
 use replay::line::outcome_of;
 use replay::line::take_line;
 
-// Takes the lines that lie whole in the input, as many as out has room for. For the crate above: it asks that no line has begun.
+// Takes the lines that lie whole in the input, until fewer bytes are left in out than any answer line may need. For the crate above: it asks that no line has begun.
 pub fn whole_lines(d: Day, input: &[u8], out: &mut [u8]) -> Fed
     requires { ⌜ Reachable (d .exchange) ⌝ }
     requires { ⌜ d .len ≡ 0 ⌝ }

@@ -1,3 +1,4 @@
+-- `day::replay_day` meets its contract.
 use mathlib.Core.Path.{sym, ap, subst}
 use native.Mathlib.Omega.{arith}
 use borrow.Author.Needs.{needs}

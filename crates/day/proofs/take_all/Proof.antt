@@ -1,3 +1,4 @@
+-- `day::take_all` meets its contract.
 use mathlib.Core.Path.{_≡_}
 use lib.ListN.{length}
 use Rattle.model.specs.Run.{Reachable}

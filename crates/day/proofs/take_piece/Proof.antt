@@ -1,3 +1,4 @@
+-- `day::take_piece` meets its contract: what was fed so far is a front of the piece.
 use mathlib.Core.Path.{_≡_, refl, sym, ap, _∙_, subst}
 use mathlib.Core.List.{List}
 use Prim.Native.Nat.{ℕ, _+_, _-_, _≤_, _<_}

@@ -1,3 +1,4 @@
+-- `stream::feed` meets its contract: one of the two kinds of work.
 use native.Mathlib.Omega.{arith}
 use native.Mathlib.Nat.{pos-of-ne-zero}
 use borrow.Author.Needs.{needs}

@@ -1,8 +1,8 @@
+-- `stream::finish` meets its contract: a byte 10 is fed.
 use mathlib.Core.Path.{_≡_, refl, sym, _∙_}
 use Prim.Native.Nat.{_<_}
 use native.Mathlib.Omega.{arith}
 use native.Mathlib.Nat.{pos-of-ne-zero}
-use borrow.Author.Needs.{needs}
 use lib.ListN.{length, length-map, length-take}
 use Rattle.replay.specs.Pieces.{streamOf}
 use Rattle.stream_parts.proofs.FeedLaws.{none-begun, some-begun, fed-same-bytes}

@@ -1,3 +1,4 @@
+-- `stream_parts::one_line` meets its contract: the line goes on, waits for room, or ends and is answered.
 use mathlib.Core.Path.{_≡_, sym, ap, _∙_}
 use mathlib.Core.Logic.{⊎-elim}
 use mathlib.Core.List.{List, _++_}

@@ -1,3 +1,4 @@
+-- `stream_parts::whole_lines` meets its contract: each turn takes a line that lies whole in the input.
 use mathlib.Core.Path.{_≡_, sym, ap, _∙_, subst}
 use mathlib.Core.List.{List, []}
 use Prim.Native.Nat.{ℕ, _+_, _-_, _≤_, _<_}

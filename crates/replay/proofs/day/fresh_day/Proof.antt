@@ -1,3 +1,4 @@
+-- `replay::day::fresh_day` meets its contract.
 use mathlib.Core.Path.{ap}
 use mathlib.Core.List.{[]}
 use borrow.Author.Needs.{needs}

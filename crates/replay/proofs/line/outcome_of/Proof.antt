@@ -1,3 +1,4 @@
+-- `replay::line::outcome_of` meets its contract: a match on what was read.
 use mathlib.Core.Path.{sym, ap, _∙_}
 use borrow.Author.Needs.{needs}
 use Rattle.replay.specs.Lines.{outcomeOf}

@@ -1,3 +1,4 @@
+-- `replay::line::take_line` meets its contract: how much was written tells whether the answer line fits.
 use borrow.Author.Needs.{needs}
 use Rattle.replay.proofs.LineRun.{told, take-put, take-bound, take-short, take-fits}
 use Rattle.replay.proofs.line.take_line.Statement.{statement}
