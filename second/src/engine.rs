@@ -14,8 +14,11 @@ pub const TICKETS: usize = 64;
 /// Number of markets; market n stands at place n - 1.
 pub const MARKETS: usize = 3;
 
-const MILLION: u64 = 1_000_000;
-const MOST: u64 = 4_294_967_295;
+/// A price counts millionths of a quote unit for each base unit.
+pub const MILLION: u64 = 1_000_000;
+/// Most of any number on a line, and of a token's supply.
+pub const MOST: u64 = 4_294_967_295;
+
 const MOST_LIMIT: u32 = 2_000_000_000;
 const MOST_REFERENCE: u32 = 1_000_000_000;
 const MOST_SLACK: u32 = 500_000;

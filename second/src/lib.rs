@@ -1,6 +1,8 @@
 //! The library of the package: the exchange itself (`engine`) and the text
-//! form of its calls and answers (`lines`), both offered under one name.
+//! form of its calls and answers (`lines`), both offered under one name; and
+//! the drawn numbers of the tools (`chance`).
 
+pub mod chance;
 pub mod engine;
 pub mod lines;
 

@@ -13,11 +13,15 @@ pub const NO_CALL: u8 = 20;
 /// Most bytes of a line before its byte 10.
 pub const LINE_MOST: usize = 80;
 
-/// Room that is always enough to write an answer line (at most 36 bytes long).
+/// Room that is always enough to write an answer line (at most 35 bytes long:
+/// only code 0, of one digit, comes with numbers above 0).
 pub const ANSWER_ROOM: usize = 48;
 
 /// Room that is always enough to write a call line (at most 68 bytes long).
 pub const CALL_ROOM: usize = 80;
+
+/// Number of fields by kind.
+pub const FIELDS: [usize; 11] = [0, 3, 3, 6, 2, 5, 1, 2, 6, 2, 1];
 
 /// Most numbers on a line: the kind and six fields.
 const NUMBERS: usize = 7;

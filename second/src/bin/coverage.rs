@@ -1,19 +1,18 @@
 //! Reads call lines from standard input, works them and prints how often
 //! each kind of call met each code (kind 0 for lines that are no call), the
 //! pairs that can occur but didn't, and how often certain borders were met.
-//! After each call it checks that no amount came up or went missing.
+//! After each call it checks that no amount came up or went missing. Where
+//! that fails, or a kind met a code that it cannot meet, it ends with status 1
+//! after the counts and says why on standard error.
 
-use second::engine::bid_quote;
-use second::lines::LINE_MOST;
+use second::engine::{bid_quote, MILLION, MOST};
+use second::lines::{FIELDS, LINE_MOST};
 use second::{read_call, Answer, Call, Exchange, Market, Phase, Place};
 use std::collections::BTreeMap;
 use std::io::{self, BufRead, BufReader, Write};
 use std::process::ExitCode;
 
-const MOST: u64 = 4_294_967_295;
-const MILLION: u64 = 1_000_000;
-
-/// The codes that a kind can meet.
+/// The codes that a kind can meet; kind 0 is a line that is no call.
 const CODES: [&[usize]; 11] = [
     &[20],
     &[0, 1, 2, 6, 14],
@@ -27,9 +26,6 @@ const CODES: [&[usize]; 11] = [
     &[0, 3, 11, 12, 13],
     &[0, 4, 8, 9, 11],
 ];
-
-/// Number of fields by kind.
-const FIELDS: [usize; 11] = [0, 3, 3, 6, 2, 5, 1, 2, 6, 2, 1];
 
 /// Every border that is counted, so that those not met show as 0.
 const BORDERS: &[&str] = &[
@@ -499,9 +495,11 @@ fn books_are_right(x: &Exchange) -> bool {
     sums == *x.supply()
 }
 
-fn run(mut input: impl BufRead, mut output: impl Write) -> io::Result<()> {
+/// Prints the counts and gives what must not be, one text for each.
+fn run(mut input: impl BufRead, mut output: impl Write) -> io::Result<Vec<String>> {
     let mut exchange = Exchange::new();
     let mut table = [[0u64; 21]; 11];
+    let mut foreign = BTreeMap::new();
     let mut counts = Counts::default();
     let mut total = 0u64;
     let mut accepted = 0u64;
@@ -533,7 +531,13 @@ fn run(mut input: impl BufRead, mut output: impl Write) -> io::Result<()> {
             }
             None => (0, 20),
         };
-        table[kind][usize::from(code)] += 1;
+        let code = usize::from(code);
+        if let Some(count) = table[kind].get_mut(code) {
+            *count += 1;
+        }
+        if !CODES[kind].contains(&code) {
+            *foreign.entry((kind, code)).or_insert(0u64) += 1;
+        }
         total += 1;
         accepted += u64::from(code == 0);
     }
@@ -573,13 +577,32 @@ fn run(mut input: impl BufRead, mut output: impl Write) -> io::Result<()> {
         let count = counts.borders.get(name).copied().unwrap_or(0);
         writeln!(output, "{count:>8}  {name}")?;
     }
-    output.flush()
+    output.flush()?;
+
+    let mut faults = Vec::new();
+    if wrong_books > 0 {
+        faults.push(format!("calls that left wrong books: {wrong_books}"));
+    }
+    for ((kind, code), count) in foreign {
+        faults
+            .push(format!("lines of kind {kind} with code {code}, which it cannot meet: {count}"));
+    }
+    Ok(faults)
 }
 
 fn main() -> ExitCode {
     let input = BufReader::with_capacity(1 << 20, io::stdin());
     match run(input, io::stdout().lock()) {
-        Ok(()) => ExitCode::SUCCESS,
+        Ok(faults) => {
+            for fault in &faults {
+                let _ = writeln!(io::stderr(), "coverage: {fault}");
+            }
+            if faults.is_empty() {
+                ExitCode::SUCCESS
+            } else {
+                ExitCode::FAILURE
+            }
+        }
         Err(error) => {
             let _ = writeln!(io::stderr(), "cannot read or write: {error}");
             ExitCode::FAILURE

@@ -3,6 +3,7 @@
 //! bytes, some have up to 100,000. With N, the program sleeps a little after
 //! about one piece in N, so that a reader gets the pieces apart.
 
+use second::chance::Chance;
 use std::fs::File;
 use std::io::{self, Read, Write};
 use std::os::fd::AsFd;
@@ -10,42 +11,26 @@ use std::process::ExitCode;
 use std::thread::sleep;
 use std::time::Duration;
 
-/// A small generator of numbers (splitmix64).
-struct Chance {
-    state: u64,
-}
-
-impl Chance {
-    /// 0 to n - 1.
-    fn below(&mut self, n: u64) -> u64 {
-        self.state = self.state.wrapping_add(0x9e37_79b9_7f4a_7c15);
-        let mut z = self.state;
-        z = (z ^ (z >> 30)).wrapping_mul(0xbf58_476d_1ce4_e5b9);
-        z = (z ^ (z >> 27)).wrapping_mul(0x94d0_49bb_1331_11eb);
-        (z ^ (z >> 31)) % n
-    }
-
-    fn size(&mut self) -> usize {
-        let most = match self.below(1_000) {
-            0..=199 => 3,
-            200..=993 => 200,
-            994..=998 => 5_000,
-            _ => 100_000,
-        };
-        1 + self.below(most) as usize
-    }
+/// The size of the next piece.
+fn size(chance: &mut Chance) -> u64 {
+    let most = match chance.below(1_000) {
+        0..=199 => 3,
+        200..=993 => 200,
+        994..=998 => 5_000,
+        _ => 100_000,
+    };
+    1 + chance.below(most)
 }
 
 fn run(seed: u64, pause: u64) -> io::Result<()> {
     let mut input = io::stdin().lock();
     // A plain file: no buffer joins the pieces again.
     let mut output = File::from(io::stdout().as_fd().try_clone_to_owned()?);
-    let mut chance = Chance { state: seed };
+    let mut chance = Chance::new(seed);
     let mut piece = Vec::new();
     loop {
         piece.clear();
-        let size = chance.size() as u64;
-        if input.by_ref().take(size).read_to_end(&mut piece)? == 0 {
+        if input.by_ref().take(size(&mut chance)).read_to_end(&mut piece)? == 0 {
             return Ok(());
         }
         output.write_all(&piece)?;

@@ -6,17 +6,12 @@
 //! at its state. `traffic SEED LINES FILE` prints traffic that is to follow
 //! the lines of a file.
 
-use second::engine::bid_quote;
-use second::lines::LINE_MOST;
+use second::chance::Chance;
+use second::engine::{bid_quote, MILLION, MOST};
+use second::lines::{FIELDS, LINE_MOST};
 use second::{read_call, Exchange, Market, Phase, Place, Ticket};
 use std::io::{self, BufWriter, Write};
 use std::process::ExitCode;
-
-const MOST: u64 = 4_294_967_295;
-const MILLION: u64 = 1_000_000;
-
-/// Number of fields by kind.
-const FIELDS: [usize; 11] = [0, 3, 3, 6, 2, 5, 1, 2, 6, 2, 1];
 
 /// The codes that refuse each kind.
 const REFUSALS: [&[u8]; 11] = [
@@ -69,47 +64,6 @@ enum Fill {
     /// Zeros before the last number.
     LeadingZeros,
     Fields,
-}
-
-/// A small generator of numbers (splitmix64).
-struct Chance {
-    state: u64,
-}
-
-impl Chance {
-    fn next(&mut self) -> u64 {
-        self.state = self.state.wrapping_add(0x9e37_79b9_7f4a_7c15);
-        let mut z = self.state;
-        z = (z ^ (z >> 30)).wrapping_mul(0xbf58_476d_1ce4_e5b9);
-        z = (z ^ (z >> 27)).wrapping_mul(0x94d0_49bb_1331_11eb);
-        z ^ (z >> 31)
-    }
-
-    /// 0 to n - 1; 0 for n = 0.
-    fn below(&mut self, n: u64) -> u64 {
-        self.next() % n.max(1)
-    }
-
-    /// From low to high, both included.
-    fn between(&mut self, low: u64, high: u64) -> u64 {
-        low + self.below(high.saturating_sub(low) + 1)
-    }
-
-    /// True once in n.
-    fn once_in(&mut self, n: u64) -> bool {
-        self.below(n) == 0
-    }
-
-    fn pick<T: Copy>(&mut self, from: &[T]) -> T {
-        from[self.below(from.len() as u64) as usize]
-    }
-
-    /// 1 to high, small ones as likely as large ones.
-    fn any_size(&mut self, high: u64) -> u64 {
-        let bits = self.between(1, 64 - u64::from(high.max(1).leading_zeros()));
-        let top = (1u64 << bits) - 1;
-        self.between(1, top.min(high.max(1)))
-    }
 }
 
 /// A call as its kind and fields.
@@ -179,8 +133,8 @@ struct Traffic<W: Write> {
 
 impl<W: Write> Traffic<W> {
     fn new(seed: u64, lines: u64, exchange: Exchange, output: W) -> Traffic<W> {
-        let mut chance = Chance { state: seed };
-        chance.next();
+        let mut chance = Chance::new(seed);
+        chance.draw();
         let mut refusals = Vec::new();
         for (kind, codes) in REFUSALS.iter().enumerate() {
             refusals.extend(codes.iter().map(|&code| (kind, code)));
@@ -794,7 +748,7 @@ impl<W: Write> Traffic<W> {
                 self.say(draft);
                 true
             }
-            // A bound missed by one, then met exactly; then a side left bare.
+            // A bound missed by one, then met exactly.
             4 => {
                 let Some(market) = self.find_market(Phase::Auction) else {
                     return false;
