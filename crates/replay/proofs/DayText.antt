@@ -13,9 +13,9 @@ use Rattle.model.specs.State.{freshExchange}
 use borrow.Author.Tests.{le-ltb}
 use Rattle.fields.specs.Grammar.{onFirst}
 use Rattle.fields.proofs.Scan.{by-test, by-order, onAll, all-cons, all-snoc}
-use Rattle.replay.specs.Lines.{LineRequest, lineOutcome, lineText, lineRequestOf, stateAfterLines}
+use Rattle.replay.specs.Lines.{LineRequest, lineOutcome, lineText, lineRequestOf, writtenText, stateAfterLines}
 use Rattle.lines.specs.AnswerText.{header}
-use Rattle.replay.specs.Days.{linesOf, answerText, lastLine, dayOf, numbered, writtenText, runText, DayIsRun}
+use Rattle.replay.specs.Days.{linesOf, answerText, lastLine, dayOf, numbered, runText, DayIsRun}
 use Rattle.lines.specs.Kept.{keptBytes}
 use Rattle.replay.specs.declared.day.Day.{Day}
 use Rattle.replay.specs.declared.day.Fed.{Fed}

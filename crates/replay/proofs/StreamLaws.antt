@@ -63,7 +63,7 @@ same-taken x n p room =
     ap
     (λ (o : Outcome).
     let t = answerLine n (o .answer) in
-    record { answer = fitted x n room o .answer; exchange = fitted x n room o .exchange; used = cond (ltb room (length t)) 0 (length t) })
+    record { answer = fitted x n room o .answer; exchange = fitted x n room o .exchange; used = length (cond (ltb room (length t)) [] t) })
     (same-outcome x p)
 
 -- ---- a stream after the bytes p of a line

@@ -2,14 +2,14 @@
 use Prim.Native.Nat.{ℕ, _+_}
 use mathlib.Core.Bool.{cond}
 use mathlib.Core.List.{List, [], _∷_, _++_}
-use lib.Dec.{ltb, eqb}
+use lib.Dec.{eqb}
 use mathlib.Core.Path.{_≡_}
 use lib.ListN.{length, take}
 use Rattle.model.specs.declared.state.Exchange.{Exchange}
 use Rattle.model.specs.State.{freshExchange}
 use Rattle.fields.specs.Grammar.{onFirst}
 use Rattle.lines.specs.AnswerText.{header}
-use Rattle.replay.specs.Lines.{LineRequest, lineOutcome, lineText, lineRequestOf, stateAfterLines}
+use Rattle.replay.specs.Lines.{LineRequest, lineOutcome, lineText, lineRequestOf, writtenText, stateAfterLines}
 
 -- the lines of an input, without their bytes 10: "A last line without byte 10 counts if it has bytes"
 abbrev pub linesOf : List ℕ → List (List ℕ)
@@ -43,10 +43,7 @@ dayLines input = numbered freshExchange 0 (take lastLine (linesOf input))
 abbrev pub dayState : List ℕ → Exchange
 dayState input = stateAfterLines lineRequestOf freshExchange (dayLines input)
 
--- what a run of lines writes: where there is too little room, nothing
-abbrev pub writtenText : Exchange → LineRequest → List ℕ
-writtenText x q = cond (ltb (q .room) (length (lineText x (q .number) (q .line)))) [] (lineText x (q .number) (q .line))
-
+-- what a run of lines writes
 abbrev pub runText : Exchange → List LineRequest → List ℕ
 runText x [] = []
 runText x (q ∷ qs) = writtenText x q ++ runText (lineRequestOf x q .exchange) qs

@@ -32,7 +32,7 @@ outcomeOf x (Read c) = stepOf x c
 unfoldable pub lineOutcome : Exchange → List ℕ → Outcome
 lineOutcome x line = outcomeOf x (readingOf line)
 
--- its answer line, where there is room
+-- its answer line
 unfoldable pub lineText : Exchange → ℕ → List ℕ → List ℕ
 lineText x number line = answerLine number (lineOutcome x line .answer)
 
@@ -50,15 +50,15 @@ LineEngine = Exchange → LineRequest → Outcome
 unfoldable pub lineRequestOf : LineEngine
 lineRequestOf x q = fitted x (q .number) (q .room) (lineOutcome x (q .line))
 
--- the outcome, and how many bytes of the answer line were written: all, or none where there is too little room
+-- what is written: its answer line, or nothing where there is too little room
+abbrev pub writtenText : Exchange → LineRequest → List ℕ
+writtenText x q = cond (ltb (q .room) (length (lineText x (q .number) (q .line)))) [] (lineText x (q .number) (q .line))
+
+-- the outcome, and how many bytes were written
 unfoldable pub takenOf : Exchange → ℕ → List ℕ → ℕ → Taken
 takenOf x number line room =
-    let o = lineRequestOf x (record { number = number; room = room; line = line }) in
-    record {
-      answer = o .answer;
-      exchange = o .exchange;
-      used = cond (ltb room (length (lineText x number line))) 0 (length (lineText x number line));
-    }
+    let q : LineRequest = record { number = number; room = room; line = line } in
+    record { answer = lineRequestOf x q .answer; exchange = lineRequestOf x q .exchange; used = length (writtenText x q) }
 
 -- ---- a list of lines, each in the state that the line before it left
 
