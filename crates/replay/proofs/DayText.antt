@@ -1,5 +1,6 @@
 -- The day in pieces is the day as a whole, wherever the input is cut; and the day is a run of lines.
 use mathlib.Core.Path.{_≡_, refl, sym, ap, _∙_}
+use mathlib.Core.Bool.{true, false}
 use mathlib.Core.List.{List, [], _∷_, _++_, append-assoc, append-nil}
 use Prim.Native.Nat.{ℕ, zero, suc, _+_, _-_, _≤_, _<_}
 use native.Mathlib.Omega.{arith}
@@ -15,7 +16,7 @@ use Rattle.fields.specs.Grammar.{onFirst}
 use Rattle.fields.proofs.Scan.{by-test, by-order, onAll, all-cons, all-snoc}
 use Rattle.replay.specs.Lines.{LineRequest, lineOutcome, lineText, lineRequestOf, writtenText, stateAfterLines}
 use Rattle.lines.specs.AnswerText.{header}
-use Rattle.replay.specs.Days.{linesOf, answerText, lastLine, dayOf, numbered, runText, DayIsRun}
+use Rattle.replay.specs.Days.{linesOf, answerText, lastLine, dayOf, dayState, numbered, runText, DayIsRun}
 use Rattle.lines.specs.Kept.{keptBytes}
 use Rattle.replay.specs.declared.day.Day.{Day}
 use Rattle.replay.specs.declared.day.Fed.{Fed}
@@ -23,26 +24,62 @@ use Rattle.replay.specs.Pieces.{Stream, start, nextByte, byteText, after
 use Rattle.replay.proofs.LineRun.{line-fits}
 use Rattle.replay.proofs.StreamLaws.{after-append, text-append, begun, end-byte, end-text, more-byte, more-text, over-after, over-text}
 
--- ---- the answers that are still to come after n lines
+-- ---- what is still to come after n lines
 
 abbrev left : ℕ → ℕ
 left n = lastLine - n
 
-abbrev rest : Exchange → ℕ → List (List ℕ) → List ℕ
-rest x n ls = answerText x n (take (left n) ls)
+exact : (x : Exchange) (n : ℕ) (l : List ℕ) → lineRequestOf x (record { number = n; room = length (lineText x n l); line = l }) ≡ lineOutcome x l
+exact x n l = line-fits x (record { number = n; room = length (lineText x n l); line = l }) (le-refl (length (lineText x n l)))
 
-rest-line : (x : Exchange) (n : ℕ) (p : List ℕ) (ls : List (List ℕ)) → n < lastLine
-    → rest x n (p ∷ ls) ≡ lineText x (n + 1) p ++ rest (lineOutcome x p .exchange) (n + 1) ls
-rest-line x n p ls h =
-    let e : left n ≡ suc (left (n + 1)) = omega arith in
-    ap (λ (k : ℕ). answerText x n (take k (p ∷ ls))) e
+-- the answers to lines, and the state that they leave
+record Comes (x : Exchange) (n : ℕ) (ls : List (List ℕ)) (text : List ℕ) (y : Exchange) : Type 0 where
+  pub text-is : text ≡ answerText x n (take (left n) ls)
+  pub state-is : y ≡ stateAfterLines lineRequestOf x (numbered x n (take (left n) ls))
 
-rest-over : (x : Exchange) (n : ℕ) (ls : List (List ℕ)) → lastLine ≤ n → rest x n ls ≡ []
-rest-over x n ls h = ap (λ (k : ℕ). answerText x n (take k ls)) (sub-eq-zero-of-le h)
+comes-as : (x : Exchange) (n : ℕ) (ls ls′ : List (List ℕ)) (text text′ : List ℕ) (y y′ : Exchange) → Comes x n ls text y → ls ≡ ls′ → text′ ≡ text → y′ ≡ y
+    → Comes x n ls′ text′ y′
+comes-as x n ls ls′ text text′ y y′ c e f g =
+    record {
+      text-is = f ∙ c .text-is ∙ ap (λ (l : List (List ℕ)). answerText x n (take (left n) l)) e;
+      state-is = g ∙ c .state-is ∙ ap (λ (l : List (List ℕ)). stateAfterLines lineRequestOf x (numbered x n (take (left n) l))) e;
+    }
 
-rest-none : (x : Exchange) (n k : ℕ) → answerText x n (take k []) ≡ []
-rest-none x n zero = refl
-rest-none x n (suc k) = refl
+comes-line : (x : Exchange) (n : ℕ) (p : List ℕ) (ls : List (List ℕ)) (text : List ℕ) (y : Exchange) → n < lastLine → Comes (lineOutcome x p .exchange) (n + 1) ls text y
+    → Comes x n (p ∷ ls) (lineText x (n + 1) p ++ text) y
+unfolding stateAfterLines
+comes-line x n p ls text y h c =
+    let e : suc (left (n + 1)) ≡ left n = omega arith in
+    let more : List (List ℕ) = take (left (n + 1)) ls in
+    record {
+      text-is =
+          ap (λ (t : List ℕ). lineText x (n + 1) p ++ t) (c .text-is) ∙ ap (λ (k : ℕ). answerText x n (take k (p ∷ ls))) e;
+      state-is =
+          c .state-is
+          ∙ ap (λ (o : Outcome). stateAfterLines lineRequestOf (o .exchange) (numbered (lineOutcome x p .exchange) (n + 1) more)) (sym (exact x (n + 1) p))
+          ∙ ap (λ (k : ℕ). stateAfterLines lineRequestOf x (numbered x n (take k (p ∷ ls)))) e;
+    }
+
+comes-over : (x : Exchange) (n : ℕ) (ls : List (List ℕ)) → lastLine ≤ n → Comes x n ls [] x
+unfolding stateAfterLines
+comes-over x n ls h =
+    let e : 0 ≡ left n = sym (sub-eq-zero-of-le h) in
+    record {
+      text-is = ap (λ (k : ℕ). answerText x n (take k ls)) e;
+      state-is = ap (λ (k : ℕ). stateAfterLines lineRequestOf x (numbered x n (take k ls))) e;
+    }
+
+take-none : (k : ℕ) → [] ≡ take {A = List ℕ} k []
+take-none zero = refl
+take-none (suc k) = refl
+
+comes-none : (x : Exchange) (n : ℕ) → Comes x n [] [] x
+unfolding stateAfterLines
+comes-none x n =
+    record {
+      text-is = ap (answerText x n) (take-none (left n));
+      state-is = ap (λ (l : List (List ℕ)). stateAfterLines lineRequestOf x (numbered x n l)) (take-none (left n));
+    }
 
 -- ---- the input's end
 
@@ -50,19 +87,22 @@ one-line : (b : ℕ) (p : List ℕ) → onAll (b ∷ p) [] ≡ (b ∷ p) ∷ []
 one-line b [] = refl
 one-line b (c ∷ p) = ap (onFirst b) (one-line c p)
 
-last : (x : Exchange) (n : ℕ) (p : List ℕ) → endText (begun x n p) ≡ rest x n (onAll p [])
-last x n [] = sym (rest-none x n (left n))
+last : (x : Exchange) (n : ℕ) (p : List ℕ) → Comes x n (onAll p []) (endText (begun x n p)) (ended (begun x n p) .exchange)
+last x n [] = comes-none x n
 last x n (b ∷ p) =
     by-order n lastLine
     (λ h.
-    append-nil _
-    ∙ end-text x n (b ∷ p) h 10 refl
-    ∙ sym
-    (ap (rest x n) (one-line b p)
-    ∙ rest-line x n (b ∷ p) [] h
-    ∙ ap (λ (t : List ℕ). lineText x (n + 1) (b ∷ p) ++ t) (rest-none (lineOutcome x (b ∷ p) .exchange) (n + 1) (left (n + 1)))
-    ∙ append-nil _))
-    (λ h. over-text (begun x n (b ∷ p)) h (10 ∷ []) ∙ sym (rest-over x n _ h))
+    comes-as x n _ _ _ _ _ _
+    (comes-line x n (b ∷ p) [] [] _ h (comes-none (lineOutcome x (b ∷ p) .exchange) (n + 1)))
+    (sym (one-line b p))
+    (ap (λ (t : List ℕ). t ++ []) (end-text x n (b ∷ p) h 10 refl))
+    (ap (λ (s : Stream). s .exchange) (end-byte x n (b ∷ p) h 10 refl)))
+    (λ h.
+    comes-as x n _ _ _ _ _ _
+    (comes-over x n (onAll (b ∷ p) []) h)
+    refl
+    (over-text (begun x n (b ∷ p)) h (10 ∷ []))
+    (ap (λ (s : Stream). s .exchange) (over-after (begun x n (b ∷ p)) h (10 ∷ []))))
 
 -- ---- the whole input, after the bytes p of a line
 
@@ -72,96 +112,52 @@ written s input = textOf s input ++ endText (after s input)
 first-byte : (s : Stream) (b : ℕ) (bs : List ℕ) → written s (b ∷ bs) ≡ byteText s b ++ written (nextByte s b) bs
 first-byte s b bs = append-assoc (byteText s b) (textOf (nextByte s b) bs) (endText (after (nextByte s b) bs))
 
-ended-line : (p : List ℕ) (ls : List (List ℕ)) → onAll p ([] ∷ ls) ≡ p ∷ ls
-ended-line p ls = all-cons p [] ls ∙ ap (λ (l : List ℕ). l ∷ ls) (append-nil p)
+-- the lines of an input that begins with byte 10, or with another
+lines-end : (p : List ℕ) (b : ℕ) (bs : List ℕ) → eqb b 10 ≡ true → p ∷ linesOf bs ≡ onAll p (linesOf (b ∷ bs))
+lines-end p b bs e = rw e (sym (all-cons p [] (linesOf bs) ∙ ap (λ (l : List ℕ). l ∷ linesOf bs) (append-nil p)))
 
-over : (input p : List ℕ) (x : Exchange) (n : ℕ) → lastLine ≤ n → written (begun x n p) input ≡ []
-over input p x n h =
-    ap (λ (t : List ℕ). t ++ endText (after (begun x n p) input)) (over-text (begun x n p) h input)
-    ∙ ap endText (over-after (begun x n p) h input)
-    ∙ over-text (begun x n p) h (lastBytes (take 81 p))
+lines-more : (p : List ℕ) (b : ℕ) (bs : List ℕ) → eqb b 10 ≡ false → onAll (p ++ (b ∷ [])) (linesOf bs) ≡ onAll p (linesOf (b ∷ bs))
+lines-more p b bs e = rw e (all-snoc p b (linesOf bs))
 
-whole : (input p : List ℕ) (x : Exchange) (n : ℕ) → written (begun x n p) input ≡ rest x n (onAll p (linesOf input))
+whole : (input p : List ℕ) (x : Exchange) (n : ℕ)
+    → Comes x n (onAll p (linesOf input)) (written (begun x n p) input) (ended (after (begun x n p) input) .exchange)
 whole [] p x n = last x n p
 whole (b ∷ bs) p x n =
     by-order n lastLine
     (λ h.
-    by-test
-    (eqb b 10)
+    by-test (eqb b 10)
     (λ e.
-    first-byte (begun x n p) b bs
+    comes-as x n _ _ _ _ _ _
+    (comes-line x n p (linesOf bs) _ _ h (whole bs [] (lineOutcome x p .exchange) (n + 1)))
+    (lines-end p b bs e)
+    (first-byte (begun x n p) b bs
     ∙ ap (λ (t : List ℕ). t ++ written (nextByte (begun x n p) b) bs) (end-text x n p h b e)
-    ∙ ap (λ (s : Stream). lineText x (n + 1) p ++ written s bs) (end-byte x n p h b e)
-    ∙ ap (λ (t : List ℕ). lineText x (n + 1) p ++ t) (whole bs [] (lineOutcome x p .exchange) (n + 1))
-    ∙ rw e (sym (ap (rest x n) (ended-line p (linesOf bs)) ∙ rest-line x n p (linesOf bs) h)))
+    ∙ ap (λ (s : Stream). lineText x (n + 1) p ++ written s bs) (end-byte x n p h b e))
+    (ap (λ (s : Stream). ended (after s bs) .exchange) (end-byte x n p h b e)))
     (λ e.
-    first-byte (begun x n p) b bs
+    comes-as x n _ _ _ _ _ _
+    (whole bs (p ++ (b ∷ [])) x n)
+    (lines-more p b bs e)
+    (first-byte (begun x n p) b bs
     ∙ ap (λ (t : List ℕ). t ++ written (nextByte (begun x n p) b) bs) (more-text x n p h b e)
-    ∙ ap (λ (s : Stream). written s bs) (more-byte x n p h b e)
-    ∙ whole bs (p ++ (b ∷ [])) x n
-    ∙ rw e (ap (rest x n) (all-snoc p b (linesOf bs)))))
-    (λ h. over (b ∷ bs) p x n h ∙ sym (rest-over x n _ h))
+    ∙ ap (λ (s : Stream). written s bs) (more-byte x n p h b e))
+    (ap (λ (s : Stream). ended (after s bs) .exchange) (more-byte x n p h b e))))
+    (λ h.
+    let s = begun x n p in
+    comes-as x n _ _ _ _ _ _
+    (comes-over x n (onAll p (linesOf (b ∷ bs))) h)
+    refl
+    (ap (λ (t : List ℕ). t ++ endText (after s (b ∷ bs))) (over-text s h (b ∷ bs))
+    ∙ ap endText (over-after s h (b ∷ bs))
+    ∙ over-text s h (lastBytes (take keptBytes p)))
+    (ap (λ (v : Stream). ended v .exchange) (over-after s h (b ∷ bs)) ∙ ap (λ (v : Stream). v .exchange) (over-after s h (lastBytes (take keptBytes p)))))
 
 day-is : (input : List ℕ) → header ++ written start input ≡ dayOf input
 unfolding dayOf
-day-is input = ap (λ (t : List ℕ). header ++ t) (whole input [] freshExchange 0)
+day-is input = ap (λ (t : List ℕ). header ++ t) (whole input [] freshExchange 0 .text-is)
 
--- ---- the state, in the same way
-
-abbrev stateAt : Exchange → ℕ → List (List ℕ) → Exchange
-stateAt x n ls = stateAfterLines lineRequestOf x (numbered x n (take (left n) ls))
-
-exact : (x : Exchange) (n : ℕ) (l : List ℕ) → lineRequestOf x (record { number = n; room = length (lineText x n l); line = l }) ≡ lineOutcome x l
-exact x n l = line-fits x (record { number = n; room = length (lineText x n l); line = l }) (le-refl (length (lineText x n l)))
-
-state-line : (x : Exchange) (n : ℕ) (p : List ℕ) (ls : List (List ℕ)) → n < lastLine
-    → stateAt x n (p ∷ ls) ≡ stateAt (lineOutcome x p .exchange) (n + 1) ls
-unfolding stateAfterLines
-state-line x n p ls h =
-    let e : left n ≡ suc (left (n + 1)) = omega arith in
-    ap (λ (k : ℕ). stateAfterLines lineRequestOf x (numbered x n (take k (p ∷ ls)))) e
-    ∙ ap (λ (o : Outcome). stateAfterLines lineRequestOf (o .exchange) (numbered (lineOutcome x p .exchange) (n + 1) (take (left (n + 1)) ls))) (exact x (n + 1) p)
-
-state-none : (x : Exchange) (n k : ℕ) → stateAfterLines lineRequestOf x (numbered x n (take k [])) ≡ x
-unfolding stateAfterLines
-state-none x n zero = refl
-state-none x n (suc k) = refl
-
-state-over : (x : Exchange) (n : ℕ) (ls : List (List ℕ)) → lastLine ≤ n → stateAt x n ls ≡ x
-unfolding stateAfterLines
-state-over x n ls h = ap (λ (k : ℕ). stateAfterLines lineRequestOf x (numbered x n (take k ls))) (sub-eq-zero-of-le h)
-
-last-state : (x : Exchange) (n : ℕ) (p : List ℕ) → ended (begun x n p) .exchange ≡ stateAt x n (onAll p [])
-last-state x n [] = sym (state-none x n (left n))
-last-state x n (b ∷ p) =
-    by-order n lastLine
-    (λ h.
-    ap (λ (s : Stream). s .exchange) (end-byte x n (b ∷ p) h 10 refl)
-    ∙ sym
-    (ap (stateAt x n) (one-line b p)
-    ∙ state-line x n (b ∷ p) [] h
-    ∙ state-none (lineOutcome x (b ∷ p) .exchange) (n + 1) (left (n + 1))))
-    (λ h. ap (λ (s : Stream). s .exchange) (over-after (begun x n (b ∷ p)) h (10 ∷ [])) ∙ sym (state-over x n _ h))
-
-whole-state : (input p : List ℕ) (x : Exchange) (n : ℕ) → ended (after (begun x n p) input) .exchange ≡ stateAt x n (onAll p (linesOf input))
-whole-state [] p x n = last-state x n p
-whole-state (b ∷ bs) p x n =
-    by-order n lastLine
-    (λ h.
-    by-test
-    (eqb b 10)
-    (λ e.
-    ap (λ (s : Stream). ended (after s bs) .exchange) (end-byte x n p h b e)
-    ∙ whole-state bs [] (lineOutcome x p .exchange) (n + 1)
-    ∙ rw e (sym (ap (stateAt x n) (ended-line p (linesOf bs)) ∙ state-line x n p (linesOf bs) h)))
-    (λ e.
-    ap (λ (s : Stream). ended (after s bs) .exchange) (more-byte x n p h b e)
-    ∙ whole-state bs (p ++ (b ∷ [])) x n
-    ∙ rw e (ap (stateAt x n) (all-snoc p b (linesOf bs)))))
-    (λ h.
-    ap (λ (s : Stream). ended s .exchange) (over-after (begun x n p) h (b ∷ bs))
-    ∙ ap (λ (s : Stream). s .exchange) (over-after (begun x n p) h (lastBytes (take keptBytes p)))
-    ∙ sym (state-over x n _ h))
+day-state : (input : List ℕ) → ended (after start input) .exchange ≡ dayState input
+day-state input = whole input [] freshExchange 0 .state-is
 
 -- ---- cut anywhere
 
@@ -183,7 +179,7 @@ pub any-cutting : AnyCutting
 any-cutting ps =
     record {
       text = ap (λ (t : List ℕ). header ++ t) (all-pieces start ps) ∙ day-is (joined ps);
-      state = ap (λ (s : Stream). s .exchange) (all-after start ps) ∙ whole-state (joined ps) [] freshExchange 0;
+      state = ap (λ (s : Stream). s .exchange) (all-after start ps) ∙ day-state (joined ps);
     }
 
 -- ---- the day is a run of lines
@@ -246,5 +242,5 @@ fed-is-day d₀ d input text out out′ r e f a all =
           ∙ ap (λ (t : List ℕ). header ++ (textOf start input ++ t))
           (fed-text d (lastBytes (streamOf d .line)) out out′ r a ∙ ap (textOf (streamOf d)) last ∙ ap endText here)
           ∙ day-is input,
-      ap (λ (s : Stream). s .exchange) (a .state ∙ ap (after (streamOf d)) last ∙ ap ended here) ∙ whole-state input [] freshExchange 0,
+      ap (λ (s : Stream). s .exchange) (a .state ∙ ap (after (streamOf d)) last ∙ ap ended here) ∙ day-state input,
     )
