@@ -8,13 +8,13 @@ use lib.ListN.{length, take, drop}
 use lib.Seq.{take-append-seam}
 use lib.Dec.{leb, eqb}
 use borrow.Author.Tests.{le-leb, lt-leb}
-use Rattle.fields.specs.Grammar.{isDigit, partsOf, before, numberOf, allNumbers, lineNumbers}
+use Rattle.fields.specs.Grammar.{isDigit, partsOf, consNumber, numberOf, allNumbers, lineNumbers}
 use Rattle.fields.specs.Fields.{isFieldByte, fieldBytes, fieldsEnd, withNumbers, fieldsAt}
 use Rattle.fields.proofs.Scan.{by-test, onAll, all-cons, all-snoc, first-bad}
 
-before-none : (m : Option ℕ) → before m none ≡ none
-before-none none = refl
-before-none (some n) = refl
+cons-none : (m : Option ℕ) → consNumber m none ≡ none
+cons-none none = refl
+cons-none (some n) = refl
 
 -- digits, then bytes that are not all digits and commas
 stops-from : (line ds : List ℕ) → length (fieldBytes line) < length line → allNumbers (onAll ds (partsOf line)) ≡ none
@@ -24,7 +24,7 @@ stops-from (b ∷ bs) ds h =
     (eqb b 44)
     (λ e.
     let less : length (fieldBytes bs) < length bs = omega (arith, rw e at h) in
-    rw (e, all-cons ds [] (partsOf bs), stops-from bs [] less) (before-none (numberOf (ds ++ []))))
+    rw (e, all-cons ds [] (partsOf bs), stops-from bs [] less) (cons-none (numberOf (ds ++ []))))
     (λ e.
     by-test
     (isDigit b)

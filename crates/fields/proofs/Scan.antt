@@ -15,7 +15,7 @@ use native.Mathlib.Numerals.{add-one}
 use lib.Dec.{leb, ltb, eqb}
 use borrow.Author.Tests.{le-leb, lt-leb, lt-ltb, ne-eqb, leb-true, leb-false, ltb-true, eqb-true, eqb-false, ltb-false}
 use Rattle.units.specs.Counts.{largest}
-use Rattle.fields.specs.Grammar.{isDigit, allDigits, valueFrom, isNumber, numberOf, onFirst, partsOf, before, allNumbers}
+use Rattle.fields.specs.Grammar.{isDigit, allDigits, valueFrom, isNumber, numberOf, onFirst, partsOf, consNumber, allNumbers}
 use Rattle.fields.specs.Fields.{isFieldByte, fieldBytes, fieldsEnd, withNumbers, fieldStep, commaAt}
 use Rattle.fields.specs.declared.Fields.{Fields}
 use Rattle.fields.specs.declared.FieldStep.{FieldStep}
@@ -43,6 +43,10 @@ and-true : (x : Bool) → (x && true) ≡ x
 and-true true = refl
 and-true false = refl
 
+-- false is not true
+pub false-not-true : false ≡ true → ⊥
+false-not-true e = eqb-false 0 0 (sym e) refl
+
 pub by-test {ℓ} : {P : Type ℓ} (t : Bool) → (t ≡ true → P) → (t ≡ false → P) → P
 by-test true f g = f refl
 by-test false f g = g refl
@@ -69,7 +73,7 @@ value-split n (d ∷ ds) es = value-split (n * 10 + (d - 48)) ds es
 pub all-more : (ds : List ℕ) (b : ℕ) → allDigits ds ≡ true → isDigit b ≡ true → allDigits (ds ++ (b ∷ [])) ≡ true
 all-more [] b p q = rw q
 all-more (d ∷ ds) b p q =
-    by-test (isDigit d) (λ e. rw (e, all-more ds b (rw e at p) q)) (λ e. absurd (eqb-false 0 0 (sym (rw e at p) ∙ refl) refl))
+    by-test (isDigit d) (λ e. rw (e, all-more ds b (rw e at p) q)) (λ e. absurd (false-not-true (rw e at p)))
 
 all-bad : (ds : List ℕ) (b : ℕ) (p : List ℕ) → isDigit b ≡ false → allDigits (ds ++ (b ∷ p)) ≡ false
 all-bad [] b p e = rw e
@@ -126,7 +130,7 @@ abbrev joinN : List ℕ → Option (List ℕ) → Option (List ℕ)
 joinN ns none = none
 joinN ns (some ms) = some (ns ++ ms)
 
-join-snoc : (ns : List ℕ) (v : ℕ) (m : Option (List ℕ)) → joinN (ns ++ (v ∷ [])) m ≡ joinN ns (before (some v) m)
+join-snoc : (ns : List ℕ) (v : ℕ) (m : Option (List ℕ)) → joinN (ns ++ (v ∷ [])) m ≡ joinN ns (consNumber (some v) m)
 join-snoc ns v none = refl
 join-snoc ns v (some ms) = ap {B = Option (List ℕ)} some (append-assoc ns (v ∷ []) ms)
 
@@ -147,7 +151,7 @@ number-is ds s v lone = refl
 number-is ds s v (more d es w z a e p h) = number-good d es w z a e h
 
 -- the fields' end
-end-with : (ns : List ℕ) (s : Bool) (v : ℕ) → cond s (some (ns ++ (v ∷ []))) none ≡ joinN ns (before (cond s (some v) none) (some []))
+end-with : (ns : List ℕ) (s : Bool) (v : ℕ) → cond s (some (ns ++ (v ∷ []))) none ≡ joinN ns (consNumber (cond s (some v) none) (some []))
 end-with ns true v = refl
 end-with ns false v = refl
 
@@ -157,7 +161,7 @@ end-is ns ds s v st = rw (all-cons ds [] [], append-nil ds, number-is ds s v st)
 
 -- a comma
 comma-with : (ns : List ℕ) (s : Bool) (v : ℕ) (r m : Option (List ℕ)) → r ≡ joinN (ns ++ (v ∷ [])) m
-    → cond s r none ≡ joinN ns (before (cond s (some v) none) m)
+    → cond s r none ≡ joinN ns (consNumber (cond s (some v) none) m)
 comma-with ns true v r m q = q ∙ join-snoc ns v m
 comma-with ns false v r m q = refl
 
@@ -167,7 +171,7 @@ comma-is ns ds s v r ps st q = rw (all-cons ds [] ps, append-nil ds, number-is d
 
 -- a digit
 pub low : (b : ℕ) → isDigit b ≡ true → 48 ≤ b
-low b e = by-test (leb 48 b) (leb-true 48 b) (λ f. absurd (eqb-false 0 0 (sym (rw f at e)) refl))
+low b e = by-test (leb 48 b) (leb-true 48 b) (λ f. absurd (false-not-true (rw f at e)))
 
 pub high : (b : ℕ) → isDigit b ≡ true → b ≤ 57
 high b e = leb-true b 57 (rw (le-leb _ _ (low b e)) at e)
@@ -288,7 +292,7 @@ goes-is s v b = by-test (isDigit b) (λ t. rw t (goes-on (s && eqb v 0) (leb (v 
 told : (s : Bool) (v b : ℕ) (d : FieldStep) → fieldStep s v b ≡ d → isDigit b ≡ goes d
 told s v b d e = sym (goes-is s v b) ∙ ap goes e
 
-no-comma : (b : ℕ) → isDigit b ≡ true → eqb b 44 ≡ false
+pub no-comma : (b : ℕ) → isDigit b ≡ true → eqb b 44 ≡ false
 no-comma b t = ne-eqb b 44 (λ e. absurd (omega (arith, low b t)))
 
 digit-field : (b : ℕ) → isDigit b ≡ true → isFieldByte b ≡ true
@@ -315,7 +319,7 @@ module _ (l : List ℕ) (i : ℕ) where
 
   pub comma-in : commaAt l i ≡ true → i < length l
   unfolding commaAt
-  comma-in e = by-test (ltb i (length l)) (ltb-true i (length l)) (λ f. absurd (eqb-false 0 0 (sym (rw f at e)) refl))
+  comma-in e = by-test (ltb i (length l)) (ltb-true i (length l)) (λ f. absurd (false-not-true (rw f at e)))
 
   comma-is-44 : commaAt l i ≡ true → eqb (getD l i 0) 44 ≡ true
   unfolding commaAt
@@ -381,7 +385,7 @@ module _ (vs : List ℕ) (count v : ℕ) (room : count < 8) (eight : length vs �
   stored-front = rw add-one (take-suc-set vs count v (omega (arith, eight)))
 
   pub stored-fields : (stop : ℕ)
-      → _≡_ {A = Fields} (record { good = true; count = count + 1; values = set vs count v; stop = stop }) (withNumbers stop (some (take count vs ++ (v ∷ []))))
+      → _≡_ {A = Fields} (record { count = count + 1; values = set vs count v; stop = stop }) (withNumbers stop (some (take count vs ++ (v ∷ []))))
   stored-fields stop =
       let t = take count vs ++ (v ∷ []) in
       let l : length t ≡ count + 1 = length-append (take count vs) (v ∷ []) ∙ ap (λ (k : ℕ). k + 1) (length-take-le count vs (omega (arith, eight))) in

@@ -1,6 +1,6 @@
 -- What the field reader answers: the numbers from a place on, and where it stopped.
 use Prim.Native.Nat.{ℕ, _+_, _*_, _-_}
-use mathlib.Core.Bool.{Bool, true, false, cond, _&&_, _||_}
+use mathlib.Core.Bool.{Bool, false, cond, _&&_, _||_}
 use mathlib.Core.List.{List, [], _∷_, _++_}
 use mathlib.Core.Option.{Option, some, none}
 use lib.ListN.{length, drop, getD, replicate}
@@ -23,13 +23,17 @@ fieldBytes (b ∷ bs) = cond (isFieldByte b) (b ∷ fieldBytes bs) []
 unfoldable pub fieldsEnd : List ℕ → ℕ → ℕ
 fieldsEnd bytes from = from + length (fieldBytes (drop from bytes))
 
--- numbers, where there are at most eight, which is more than any kind has: those that are not there are 0
+-- more than any kind has
+abbrev pub mostNumbers : ℕ
+mostNumbers = 8
+
+-- numbers, where there are at most mostNumbers: those that are not there are 0
 abbrev pub withNumbers : ℕ → Option (List ℕ) → Fields
-withNumbers stop none = record { good = false; count = 0; values = replicate 8 0; stop = stop }
+withNumbers stop none = record { count = 0; values = replicate mostNumbers 0; stop = stop }
 withNumbers stop (some ns) =
-    cond (leb (length ns) 8)
-    (record { good = true; count = length ns; values = ns ++ replicate (8 - length ns) 0; stop = stop })
-    (record { good = false; count = 0; values = replicate 8 0; stop = stop })
+    cond (leb (length ns) mostNumbers)
+    (record { count = length ns; values = ns ++ replicate (mostNumbers - length ns) 0; stop = stop })
+    (record { count = 0; values = replicate mostNumbers 0; stop = stop })
 
 unfoldable pub fieldsAt : List ℕ → ℕ → Fields
 fieldsAt bytes from = withNumbers (fieldsEnd bytes from) (allNumbers (partsOf (fieldBytes (drop from bytes))))

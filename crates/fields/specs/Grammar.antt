@@ -45,15 +45,15 @@ partsOf [] = [] ∷ []
 partsOf (b ∷ bs) = cond (eqb b 44) ([] ∷ partsOf bs) (onFirst b (partsOf bs))
 
 -- a number before numbers, where all are
-abbrev pub before : Option ℕ → Option (List ℕ) → Option (List ℕ)
-before none m = none
-before (some n) none = none
-before (some n) (some ns) = some (n ∷ ns)
+abbrev pub consNumber : Option ℕ → Option (List ℕ) → Option (List ℕ)
+consNumber none m = none
+consNumber (some n) none = none
+consNumber (some n) (some ns) = some (n ∷ ns)
 
 -- the numbers of all parts, where each is one
 abbrev pub allNumbers : List (List ℕ) → Option (List ℕ)
 allNumbers [] = some []
-allNumbers (p ∷ ps) = before (numberOf p) (allNumbers ps)
+allNumbers (p ∷ ps) = consNumber (numberOf p) (allNumbers ps)
 
 -- "At most 80 bytes before byte 10; a longer line is one line and gets 20"
 abbrev pub longestLine : ℕ

@@ -2,14 +2,19 @@
 ghost use mathlib.Core.Path.{_≡_};
 ghost use Rattle.fields.specs.Fields.{isFieldByte, commaAt, fieldStep, fieldsEnd, fieldsAt};
 
-// The numbers that a line begins with, the kind and its fields, and the place where the reader stopped. They are good where each is a
-// number and there are at most eight, which is more than any kind has; else count and values are 0.
+// The numbers that a line begins with, the kind and its fields, and the place where the reader stopped: count of the values are numbers,
+// and the others are 0. count is 0 and values are 0 where a field is no number or there are more than MOST_NUMBERS.
 pub struct Fields {
-    pub good: bool,
     pub count: usize,
     pub values: [u32; 8],
     pub stop: usize,
 }
+
+// The largest number of document 01.
+const LARGEST: u64 = 4_294_967_295;
+
+// More than any kind has.
+const MOST_NUMBERS: usize = 8;
 
 // A field's value with one byte more: it is a digit, or the field ends before it, or the field is no number.
 pub enum FieldStep {
@@ -34,7 +39,7 @@ fn field_step(started: bool, value: u32, b: u8) -> FieldStep
         }
     }
     let next = (value as u64) * 10 + ((b - b'0') as u64);
-    if 4294967295 < next {
+    if LARGEST < next {
         return FieldStep::Bad;
     }
     FieldStep::Value(next as u32)
@@ -108,7 +113,7 @@ pub fn read_fields(bytes: &[u8], from: usize) -> Fields
         if i == start {
             break 'line;
         }
-        if count == 8 {
+        if count == MOST_NUMBERS {
             break 'line;
         }
         values[count] = value;
@@ -121,14 +126,12 @@ pub fn read_fields(bytes: &[u8], from: usize) -> Fields
     }
     if good {
         return Fields {
-            good: true,
             count,
             values,
             stop: i,
         };
     }
     Fields {
-        good: false,
         count: 0,
         values: [0; 8],
         stop: fields_end(bytes, i),

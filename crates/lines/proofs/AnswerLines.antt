@@ -41,7 +41,7 @@ module _ (n : ℕ) (a : Answer) (c f s : ℕ) (is-code : c ≡ codeOf a) (is-fir
         field-length s 10,
       )
 
-pub line-length : (n : ℕ) (a : Answer)
+line-length : (n : ℕ) (a : Answer)
     → length (answerLine n a) ≡ length (digits n) + length (digits (codeOf a)) + length (digits (firstOf a)) + length (digits (secondOf a)) + 4
 line-length n a = fields-length n a (codeOf a) (firstOf a) (secondOf a) refl refl refl
 

@@ -120,25 +120,12 @@ eight P p (a ∷ (b ∷ (c ∷ (d ∷ (e ∷ (f ∷ (g ∷ []))))))) q = absurd 
 eight P p (a ∷ (b ∷ (c ∷ (d ∷ (e ∷ (f ∷ (g ∷ (h ∷ [])))))))) q = p a b c d e f g h
 eight P p (a ∷ (b ∷ (c ∷ (d ∷ (e ∷ (f ∷ (g ∷ (h ∷ (i ∷ l))))))))) q = absurd (omega (arith, q))
 
-pub take-two : (n : ℕ) (l : List ℕ) → length l ≡ 8 → n ≡ 2 → take n l ≡ (getD l 0 0 ∷ (getD l 1 0 ∷ []))
-take-two n l q e =
-    ap (λ (m : ℕ). take m l) e ∙ eight (λ (l : List ℕ). take 2 l ≡ (getD l 0 0 ∷ (getD l 1 0 ∷ []))) (λ a b c d e f g h. refl) l q
-
-pub take-three : (n : ℕ) (l : List ℕ) → length l ≡ 8 → n ≡ 3 → take n l ≡ (getD l 0 0 ∷ (getD l 1 0 ∷ (getD l 2 0 ∷ [])))
-take-three n l q e =
-    ap (λ (m : ℕ). take m l) e ∙ eight (λ (l : List ℕ). take 3 l ≡ (getD l 0 0 ∷ (getD l 1 0 ∷ (getD l 2 0 ∷ [])))) (λ a b c d e f g h. refl) l q
-
-pub take-four : (n : ℕ) (l : List ℕ) → length l ≡ 8 → n ≡ 4 → take n l ≡ (getD l 0 0 ∷ (getD l 1 0 ∷ (getD l 2 0 ∷ (getD l 3 0 ∷ []))))
-take-four n l q e =
-    ap (λ (m : ℕ). take m l) e ∙ eight (λ (l : List ℕ). take 4 l ≡ (getD l 0 0 ∷ (getD l 1 0 ∷ (getD l 2 0 ∷ (getD l 3 0 ∷ []))))) (λ a b c d e f g h. refl) l q
-
-pub take-six : (n : ℕ) (l : List ℕ) → length l ≡ 8 → n ≡ 6 → take n l ≡ (getD l 0 0 ∷ (getD l 1 0 ∷ (getD l 2 0 ∷ (getD l 3 0 ∷ (getD l 4 0 ∷ (getD l 5 0 ∷ []))))))
-take-six n l q e =
-    ap (λ (m : ℕ). take m l) e ∙ eight (λ (l : List ℕ). take 6 l ≡ (getD l 0 0 ∷ (getD l 1 0 ∷ (getD l 2 0 ∷ (getD l 3 0 ∷ (getD l 4 0 ∷ (getD l 5 0 ∷ []))))))) (λ a b c d e f g h. refl) l q
-
-pub take-seven : (n : ℕ) (l : List ℕ) → length l ≡ 8 → n ≡ 7 → take n l ≡ (getD l 0 0 ∷ (getD l 1 0 ∷ (getD l 2 0 ∷ (getD l 3 0 ∷ (getD l 4 0 ∷ (getD l 5 0 ∷ (getD l 6 0 ∷ [])))))))
-take-seven n l q e =
-    ap (λ (m : ℕ). take m l) e ∙ eight (λ (l : List ℕ). take 7 l ≡ (getD l 0 0 ∷ (getD l 1 0 ∷ (getD l 2 0 ∷ (getD l 3 0 ∷ (getD l 4 0 ∷ (getD l 5 0 ∷ (getD l 6 0 ∷ [])))))))) (λ a b c d e f g h. refl) l q
+-- its first k, by their places
+pub take-first : (k n : ℕ) (l : List ℕ) → length l ≡ 8 → n ≡ k
+    → take n l ≡ take k (getD l 0 0 ∷ (getD l 1 0 ∷ (getD l 2 0 ∷ (getD l 3 0 ∷ (getD l 4 0 ∷ (getD l 5 0 ∷ (getD l 6 0 ∷ (getD l 7 0 ∷ []))))))))
+take-first k n l q e =
+    ap (λ (m : ℕ). take m l) e
+    ∙ ap (take k) (eight (λ (l : List ℕ). l ≡ getD l 0 0 ∷ (getD l 1 0 ∷ (getD l 2 0 ∷ (getD l 3 0 ∷ (getD l 4 0 ∷ (getD l 5 0 ∷ (getD l 6 0 ∷ (getD l 7 0 ∷ [])))))))) (λ a b c d e f g h. refl) l q)
 
 -- no call has one number, five, or eight and more
 pub no-count : (n : ℕ) (l : List ℕ) → length l ≡ 8 → (n ≡ 2 → ⊥) → (n ≡ 3 → ⊥) → (n ≡ 4 → ⊥) → (n ≡ 6 → ⊥) → (n ≡ 7 → ⊥)

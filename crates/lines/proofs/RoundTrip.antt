@@ -5,15 +5,15 @@ use mathlib.Core.List.{List, [], _∷_, _++_, map, append-assoc, append-nil}
 use mathlib.Core.Option.{Option, some, none}
 use Prim.Native.Nat.{ℕ, zero, suc, _+_, _-_, _*_, _/_, _%_, _≤_, _<_}
 use native.Mathlib.Omega.{arith}
-use native.Mathlib.Nat.{le-refl, not-suc-le-zero, lt-of-lt-of-le, not-le-of-lt}
+use native.Mathlib.Nat.{le-refl, not-suc-le-zero, lt-of-lt-of-le}
 use lib.Arith.{lt-of-le-ne, le-zero}
 use lib.ListN.{length, length-append}
-use lib.Dec.{leb, eqb, lit<}
-use borrow.Author.Tests.{le-leb, ne-eqb, eqb-false, eqb-true}
+use lib.Dec.{leb, eqb}
+use borrow.Author.Tests.{le-leb, eqb-false, eqb-true}
 use Rattle.units.specs.Counts.{largest}
 use Rattle.units.specs.Decimal.{digits}
 use Rattle.fields.specs.Grammar.{isDigit, allDigits, valueFrom, isNumber, numberOf, onFirst, partsOf, allNumbers, lineNumbers, longestLine}
-use Rattle.fields.proofs.Scan.{by-test, by-order, low, high, value-more, all-more, number-good}
+use Rattle.fields.proofs.Scan.{false-not-true, by-test, by-order, no-comma, low, high, value-more, all-more, number-good}
 use Rattle.fields.proofs.LineLaws.{line-short}
 use Rattle.model.specs.declared.call.Call.{Call}
 use Rattle.model.specs.declared.call.Call.the-variants.{Deposit, Withdraw, Order, Cancel, Open, Enter, Match, Bid, Settle, Claim}
@@ -26,6 +26,12 @@ use Rattle.lines.proofs.CallLaws.{deposit-is, withdraw-is, order-is, ca
 and-left : (x y : Bool) → (x && y) ≡ true → x ≡ true
 and-left true y e = refl
 and-left false y e = e
+
+same : {A : Type 0} (a b : A) → _≡_ {A = Option A} (some a) (some b) → b ≡ a
+same a b p = cc
+
+differ : {A : Type 0} (a : A) → _≡_ {A = Option A} none (some a) → ⊥
+differ a p = let z : _≡_ {A = ℕ} 0 1 = cc in omega arith
 
 -- ---- read, then written
 
@@ -49,7 +55,7 @@ lead-all (b ∷ bs) v p a =
     lead-all bs (v * 10 + (b - 48)) (omega arith) (rw e at a)
     ∙ ap (λ (l : List ℕ). l ++ bs) (lead-more v b p e)
     ∙ append-assoc (lead v) (b ∷ []) bs)
-    (λ e. absurd (eqb-false 0 0 (sym (rw e at a)) refl))
+    (λ e. absurd (false-not-true (rw e at a)))
 
 digits-lead : (n : ℕ) → 0 < n → digits n ≡ lead n
 digits-lead n p = digits-step n ∙ sym (lead-step n p)
@@ -73,14 +79,14 @@ written-plain d bs z a =
     (lead-step (0 * 10 + (d - 48)) v
     ∙ ap (λ (k : List ℕ). k ++ ((48 + (0 * 10 + (d - 48)) % 10) ∷ [])) (lead-none ((0 * 10 + (d - 48)) / 10) (omega arith))
     ∙ ap (λ (k : ℕ). k ∷ []) (omega arith)))
-    (λ e. absurd (eqb-false 0 0 (sym (rw e at a)) refl))
+    (λ e. absurd (false-not-true (rw e at a)))
 
 written-zero : digits 0 ≡ 48 ∷ []
 unfolding digits
 written-zero = refl
 
 number-text : (f : List ℕ) → isNumber f ≡ true → digits (valueFrom 0 f) ≡ f
-number-text [] e = absurd (eqb-false 0 0 (sym e) refl)
+number-text [] e = absurd (false-not-true e)
 number-text (d ∷ []) e =
     by-test
     (eqb d 48)
@@ -89,7 +95,7 @@ number-text (d ∷ []) e =
 number-text (d ∷ (g ∷ bs)) e =
     by-test
     (eqb d 48)
-    (λ t. absurd (eqb-false 0 0 (sym (rw t at e)) refl))
+    (λ t. absurd (false-not-true (rw t at e)))
     (λ t. written-plain d (g ∷ bs) (eqb-false d 48 t) (rw t at e))
 
 number-written : (f : List ℕ) (n : ℕ) → numberOf f ≡ some n → digits n ≡ f
@@ -99,12 +105,6 @@ number-written f n e =
     (isNumber f && leb (valueFrom 0 f) largest)
     (λ t. ap digits (same (valueFrom 0 f) n (rw t at e)) ∙ number-text f (and-left _ _ t))
     (λ t. absurd (differ n (rw t at e)))
-  where
-    same : (a b : ℕ) → _≡_ {A = Option ℕ} (some a) (some b) → b ≡ a
-    same a b p = cc
-
-    differ : (a : ℕ) → _≡_ {A = Option ℕ} none (some a) → ⊥
-    differ a p = let z : _≡_ {A = ℕ} 0 1 = cc in omega arith
 
 by-option : {A P : Type 0} (o : Option A) → (o ≡ none → P) → ((a : A) → o ≡ some a → P) → P
 by-option none f g = f refl
@@ -112,9 +112,6 @@ by-option (some a) f g = g a refl
 
 numbers-written : (ps : List (List ℕ)) (ns : List ℕ) → allNumbers ps ≡ some ns → map digits ns ≡ ps
 numbers-written [] ns e = ap (map digits) (same [] ns e)
-  where
-    same : (a b : List ℕ) → _≡_ {A = Option (List ℕ)} (some a) (some b) → b ≡ a
-    same a b p = cc
 numbers-written (p ∷ ps) ns e =
     by-option (numberOf p)
     (λ f. absurd (differ ns (rw f at e)))
@@ -125,12 +122,6 @@ numbers-written (p ∷ ps) ns e =
     ap (map digits) (same (n ∷ ms) ns (rw (f, g) at e))
     ∙ ap (λ (x : List ℕ). x ∷ map digits ms) (number-written p n f)
     ∙ ap (λ (x : List (List ℕ)). p ∷ x) (numbers-written ps ms g)))
-  where
-    same : (a b : List ℕ) → _≡_ {A = Option (List ℕ)} (some a) (some b) → b ≡ a
-    same a b p = cc
-
-    differ : (a : List ℕ) → _≡_ {A = Option (List ℕ)} none (some a) → ⊥
-    differ a p = let z : _≡_ {A = ℕ} 0 1 = cc in omega arith
 
 -- the parts of a line make the line
 join-first : (b : ℕ) (ps : List (List ℕ)) → joinParts (onFirst b ps) ≡ b ∷ joinParts ps
@@ -162,9 +153,6 @@ read-written line ns e =
     (leb (length line) longestLine)
     (λ t. ap joinParts (numbers-written (partsOf line) ns (rw t at e)) ∙ parts-line line)
     (λ t. absurd (differ ns (rw t at e)))
-  where
-    differ : (a : List ℕ) → _≡_ {A = Option (List ℕ)} none (some a) → ⊥
-    differ a p = let z : _≡_ {A = ℕ} 0 1 = cc in omega arith
 
 -- ---- written, then read
 
@@ -226,11 +214,8 @@ digits-all n =
     all-more (lead (n / 10)) (48 + n % 10) (ap allDigits (s .is) ∙ s .all) (last-digit n))
     (λ q. ap (λ (l : List ℕ). allDigits (l ++ ((48 + n % 10) ∷ []))) (lead-none (n / 10) q) ∙ rw (last-digit n))
 
-no-comma : (d : ℕ) → isDigit d ≡ true → eqb d 44 ≡ false
-no-comma d e = ne-eqb d 44 (λ q. not-le-of-lt (lit< tt) (subst (λ (x : ℕ). 48 ≤ x) q (low d e)))
-
 both : (d : ℕ) (ds : List ℕ) → allDigits (d ∷ ds) ≡ true → (isDigit d ≡ true) × (allDigits ds ≡ true)
-both d ds a = by-test (isDigit d) (λ e. (e, rw e at a)) (λ e. absurd (eqb-false 0 0 (sym (rw e at a)) refl))
+both d ds a = by-test (isDigit d) (λ e. (e, rw e at a)) (λ e. absurd (false-not-true (rw e at a)))
 
 partsOf-more : (ds rest : List ℕ) → allDigits ds ≡ true → partsOf (ds ++ (44 ∷ rest)) ≡ ds ∷ partsOf rest
 partsOf-more [] rest a = refl

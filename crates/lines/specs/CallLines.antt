@@ -53,6 +53,8 @@ sixFields f (a ∷ (b ∷ (c ∷ (d ∷ (e ∷ (g ∷ (h ∷ ns))))))) = NoCall
 
 -- ---- the ten kinds
 
+-- "An empty line, an unknown kind, a wrong number of fields or a value above 4,294,967,295 gets 20": here an unknown kind and a wrong number
+-- of fields do
 unfoldable pub ofKind : ℕ → List ℕ → Reading
 ofKind kind fields =
     cond (eqb kind 1) (threeFields Deposit fields)
@@ -67,11 +69,12 @@ ofKind kind fields =
     (cond (eqb kind 10) (oneField Claim fields)
     NoCall)))))))))
 
--- the call of a line's numbers
+-- the call of a line's numbers; no kind is no call
 abbrev pub callOf : List ℕ → Reading
 callOf [] = NoCall
 callOf (kind ∷ fields) = ofKind kind fields
 
+-- a line whose parts are not all numbers has none: so has "An empty line", whose one part is empty, and one with "a value above 4,294,967,295"
 abbrev pub callOfNumbers : Option (List ℕ) → Reading
 callOfNumbers none = NoCall
 callOfNumbers (some ns) = callOf ns

@@ -11,16 +11,16 @@ use Rattle.model.specs.declared.call.Call.the-variants.{Deposit, Withdraw, Orde
 
 -- a call's kind number, and then its fields
 abbrev pub numbersOfCall : Call → List ℕ
-numbersOfCall (Deposit a b c) = 1 ∷ (a ∷ (b ∷ (c ∷ [])))
-numbersOfCall (Withdraw a b c) = 2 ∷ (a ∷ (b ∷ (c ∷ [])))
-numbersOfCall (Order a b c d e f) = 3 ∷ (a ∷ (b ∷ (c ∷ (d ∷ (e ∷ (f ∷ []))))))
-numbersOfCall (Cancel a b) = 4 ∷ (a ∷ (b ∷ []))
-numbersOfCall (Open a b c d e) = 5 ∷ (a ∷ (b ∷ (c ∷ (d ∷ (e ∷ [])))))
-numbersOfCall (Enter a) = 6 ∷ (a ∷ [])
-numbersOfCall (Match a b) = 7 ∷ (a ∷ (b ∷ []))
-numbersOfCall (Bid a b c d e f) = 8 ∷ (a ∷ (b ∷ (c ∷ (d ∷ (e ∷ (f ∷ []))))))
-numbersOfCall (Settle a b) = 9 ∷ (a ∷ (b ∷ []))
-numbersOfCall (Claim a) = 10 ∷ (a ∷ [])
+numbersOfCall (Deposit member token amount) = 1 ∷ (member ∷ (token ∷ (amount ∷ [])))
+numbersOfCall (Withdraw member token amount) = 2 ∷ (member ∷ (token ∷ (amount ∷ [])))
+numbersOfCall (Order ticket member market side limit amount) = 3 ∷ (ticket ∷ (member ∷ (market ∷ (side ∷ (limit ∷ (amount ∷ []))))))
+numbersOfCall (Cancel ticket member) = 4 ∷ (ticket ∷ (member ∷ []))
+numbersOfCall (Open market block reference slack length) = 5 ∷ (market ∷ (block ∷ (reference ∷ (slack ∷ (length ∷ [])))))
+numbersOfCall (Enter ticket) = 6 ∷ (ticket ∷ [])
+numbersOfCall (Match market block) = 7 ∷ (market ∷ (block ∷ []))
+numbersOfCall (Bid market member block side base bound) = 8 ∷ (market ∷ (member ∷ (block ∷ (side ∷ (base ∷ (bound ∷ []))))))
+numbersOfCall (Settle market block) = 9 ∷ (market ∷ (block ∷ []))
+numbersOfCall (Claim ticket) = 10 ∷ (ticket ∷ [])
 
 -- parts with a comma between each two
 abbrev pub joinParts : List (List ℕ) → List ℕ

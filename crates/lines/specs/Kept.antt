@@ -1,5 +1,6 @@
 -- A line that has begun: so many of its bytes tell whether it is too long.
-use Prim.Native.Nat.{ℕ}
+use Prim.Native.Nat.{ℕ, _+_}
+use Rattle.fields.specs.Grammar.{longestLine}
 
 abbrev pub keptBytes : ℕ
-keptBytes = 81
+keptBytes = longestLine + 1

@@ -146,7 +146,7 @@ at-is bytes from stop r e q = rw (e, q)
 
 module _ (c : tie.Left-loop-2 Inv-loop μ-loop Inv-line μ-line) where
   answer : cond (c .loop-test .good)
-      (record { good = true; count = c .loop-test .count; values = c .loop-test .values; stop = c .before .loop .i })
+      (record { count = c .loop-test .count; values = c .loop-test .values; stop = c .before .loop .i })
       (noFields (fieldsEnd (c .before .before .before .before .args .bytes .now) (c .before .loop .i)))
       ≡ fieldsAt (c .before .before .before .before .args .bytes .now) (c .before .before .before .before .args .from)
   answer =

@@ -1,3 +1,4 @@
+-- `lines::answer::header` meets its contract.
 use mathlib.Core.Path.{refl}
 use Rattle.lines.proofs.answer.header.Statement.{statement}
 use Rattle.lines.proofs.answer.header.Tie as tie

@@ -1,3 +1,4 @@
+-- `lines::call::call_of` meets its contract: the numbers counted are the first of the eight values.
 use mathlib.Core.Path.{_≡_, sym, ap, _∙_}
 use lib.ListN.{length}
 use native.Mathlib.Omega.{arith}
@@ -5,7 +6,7 @@ use lib.Dec.{lit<}
 use borrow.Author.Needs.{needs}
 use Rattle.fields.specs.declared.Fields.{Fields}
 use Rattle.lines.specs.CallLines.{callOf}
-use Rattle.lines.proofs.CallLaws.{take-two, take-three, take-four, take-six, take-seven, no-count}
+use Rattle.lines.proofs.CallLaws.{take-first, no-count}
 use Rattle.lines.proofs.call.call_of.Statement.{statement}
 use Rattle.lines.proofs.call.call_of.Tie as tie
 
@@ -22,7 +23,7 @@ returns : tie.Need-returns
 returns c =
     let f : Fields = c .before .before .before .before .args .f in
     let long : length (f .values) ≡ 8 = search needs in
-    c .with-1 .ensures ∙ ap callOf (sym (take-two (f .count) (f .values) long (omega (arith, c .before .if1 .taken))))
+    c .with-1 .ensures ∙ ap callOf (sym (take-first 2 (f .count) (f .values) long (omega (arith, c .before .if1 .taken))))
 
 array-read-with-2 : tie.Need-array-read-with-2
 array-read-with-2 c = lit< tt
@@ -40,7 +41,7 @@ returns-2 : tie.Need-returns-2
 returns-2 c =
     let f : Fields = c .before .before .before .before .before .before .args .f in
     let long : length (f .values) ≡ 8 = search needs in
-    c .with-2 .ensures ∙ ap callOf (sym (take-three (f .count) (f .values) long (omega (arith, c .before .if2 .taken))))
+    c .with-2 .ensures ∙ ap callOf (sym (take-first 3 (f .count) (f .values) long (omega (arith, c .before .if2 .taken))))
 
 array-read-with-3 : tie.Need-array-read-with-3
 array-read-with-3 c = lit< tt
@@ -61,7 +62,7 @@ returns-3 : tie.Need-returns-3
 returns-3 c =
     let f : Fields = c .before .before .before .before .before .before .before .before .args .f in
     let long : length (f .values) ≡ 8 = search needs in
-    c .with-3 .ensures ∙ ap callOf (sym (take-four (f .count) (f .values) long (omega (arith, c .before .if3 .taken))))
+    c .with-3 .ensures ∙ ap callOf (sym (take-first 4 (f .count) (f .values) long (omega (arith, c .before .if3 .taken))))
 
 array-read-with-5 : tie.Need-array-read-with-5
 array-read-with-5 c = lit< tt
@@ -88,7 +89,7 @@ returns-4 : tie.Need-returns-4
 returns-4 c =
     let f : Fields = c .before .before .before .before .before .before .before .before .before .before .args .f in
     let long : length (f .values) ≡ 8 = search needs in
-    c .with-5 .ensures ∙ ap callOf (sym (take-six (f .count) (f .values) long (omega (arith, c .before .if4 .taken))))
+    c .with-5 .ensures ∙ ap callOf (sym (take-first 6 (f .count) (f .values) long (omega (arith, c .before .if4 .taken))))
 
 array-read-with-6 : tie.Need-array-read-with-6
 array-read-with-6 c = lit< tt
@@ -118,7 +119,7 @@ returns-5 : tie.Need-returns-5
 returns-5 c =
     let f : Fields = c .before .before .before .before .before .before .before .before .before .before .before .before .args .f in
     let long : length (f .values) ≡ 8 = search needs in
-    c .with-6 .ensures ∙ ap callOf (sym (take-seven (f .count) (f .values) long (omega (arith, c .before .if5 .taken))))
+    c .with-6 .ensures ∙ ap callOf (sym (take-first 7 (f .count) (f .values) long (omega (arith, c .before .if5 .taken))))
 
 returns-6 : tie.Need-returns-6
 returns-6 c =

@@ -1,3 +1,4 @@
+-- `lines::call::read_call` meets its contract: byte 10 stands inside, or the line is all that is there.
 use native.Mathlib.Omega.{arith}
 use borrow.Author.Needs.{needs}
 use Rattle.lines.proofs.CallLaws.{ten-inside, stands-alone}

@@ -1,3 +1,4 @@
+-- `lines::call::read_line` meets its contract: the reader stopped short of the line's end, or the line is too long, or its call is that of the numbers read.
 use mathlib.Core.Path.{_∙_}
 use native.Mathlib.Omega.{arith}
 use borrow.Author.Needs.{needs}

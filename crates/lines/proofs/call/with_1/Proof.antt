@@ -1,3 +1,4 @@
+-- `lines::call::with_1` meets its contract: by kind number.
 use native.Mathlib.Omega.{arith}
 use Rattle.lines.proofs.CallLaws.{enter-is, claim-is, no-one}
 use Rattle.lines.proofs.call.with_1.Statement.{statement}

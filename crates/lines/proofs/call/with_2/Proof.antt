@@ -1,3 +1,4 @@
+-- `lines::call::with_2` meets its contract: by kind number.
 use native.Mathlib.Omega.{arith}
 use Rattle.lines.proofs.CallLaws.{cancel-is, match-is, settle-is, no-two}
 use Rattle.lines.proofs.call.with_2.Statement.{statement}

@@ -1,3 +1,4 @@
+-- `lines::call::with_3` meets its contract: by kind number.
 use native.Mathlib.Omega.{arith}
 use Rattle.lines.proofs.CallLaws.{deposit-is, withdraw-is, no-three}
 use Rattle.lines.proofs.call.with_3.Statement.{statement}

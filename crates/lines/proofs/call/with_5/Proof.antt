@@ -1,3 +1,4 @@
+-- `lines::call::with_5` meets its contract: by kind number.
 use native.Mathlib.Omega.{arith}
 use Rattle.lines.proofs.CallLaws.{open-is, no-five}
 use Rattle.lines.proofs.call.with_5.Statement.{statement}

@@ -1,3 +1,4 @@
+-- `lines::call::with_6` meets its contract: by kind number.
 use native.Mathlib.Omega.{arith}
 use Rattle.lines.proofs.CallLaws.{order-is, bid-is, no-six}
 use Rattle.lines.proofs.call.with_6.Statement.{statement}

@@ -1,3 +1,4 @@
+-- `lines::kept::keep` meets its contract: len bytes of the line are kept after i bytes of the input.
 use mathlib.Core.Path.{_≡_, ap, _∙_}
 use mathlib.Core.Logic.{⊎-elim}
 use mathlib.Core.List.{_++_}
