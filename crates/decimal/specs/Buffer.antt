@@ -9,7 +9,7 @@ use lib.Dec.{leb}
 unfoldable pub putAt : List ℕ → ℕ → List ℕ → List ℕ
 putAt out at text = take at out ++ (text ++ drop (at + length text) out)
 
--- text at the start of out where out is long enough; else out as it is
+-- text at the start of out where out is long enough, "and no byte after it changes"; else, as 21 has it, "nothing is written"
 unfoldable pub putInto : List ℕ → List ℕ → List ℕ
 putInto out text = cond (leb (length text) (length out)) (putAt out 0 text) out
 
