@@ -4,11 +4,12 @@ ghost use Rattle.model.specs.Calls.{depositOf, withdrawOf, orderOf, cancelOf};
 ghost use Rattle.model.specs.Run.{Reachable};
 ghost use Prim.Native.Nat.{_<_};
 ghost use Rattle.model.specs.Parts.{putBanked, putPlaced};
-use forms::form_of;
+use forms::bank_form;
+use forms::cancel_form;
+use forms::order_form;
 use ledger::row_of;
 use ledger::with_row;
 use model::answer::Outcome;
-use model::call::Call;
 use model::parts::Banked;
 use model::parts::Form;
 use model::parts::Placed;
@@ -62,11 +63,7 @@ pub fn deposit(x: Exchange, member: u32, token: u32, amount: u32) -> Outcome
     requires { ⌜ Reachable x ⌝ }
     ensures { λ r. ⌜ r ≡ depositOf x member token amount ⌝ }
 {
-    let form = form_of(Call::Deposit {
-        member,
-        token,
-        amount,
-    });
+    let form = bank_form(member, token, amount);
     match form {
         Form::Bad(why) => refused(x, why),
         Form::Good => {
@@ -82,11 +79,7 @@ pub fn withdraw(x: Exchange, member: u32, token: u32, amount: u32) -> Outcome
     requires { ⌜ Reachable x ⌝ }
     ensures { λ r. ⌜ r ≡ withdrawOf x member token amount ⌝ }
 {
-    let form = form_of(Call::Withdraw {
-        member,
-        token,
-        amount,
-    });
+    let form = bank_form(member, token, amount);
     match form {
         Form::Bad(why) => refused(x, why),
         Form::Good => {
@@ -115,14 +108,7 @@ pub fn order(
     requires { ⌜ Reachable x ⌝ }
     ensures { λ r. ⌜ r ≡ orderOf x ticket member market side limit amount ⌝ }
 {
-    let form = form_of(Call::Order {
-        ticket,
-        member,
-        market,
-        side,
-        limit,
-        amount,
-    });
+    let form = order_form(ticket, member, market, side, limit, amount);
     match form {
         Form::Bad(why) => refused(x, why),
         Form::Good => {
@@ -145,7 +131,7 @@ pub fn cancel(x: Exchange, ticket: u32, member: u32) -> Outcome
     requires { ⌜ Reachable x ⌝ }
     ensures { λ r. ⌜ r ≡ cancelOf x ticket member ⌝ }
 {
-    let form = form_of(Call::Cancel { ticket, member });
+    let form = cancel_form(ticket, member);
     match form {
         Form::Bad(why) => refused(x, why),
         Form::Good => {

@@ -4,11 +4,11 @@ ghost use Rattle.model.specs.Calls.{bidOf, settleOf};
 ghost use Rattle.model.specs.Run.{Reachable};
 ghost use Prim.Native.Nat.{_<_};
 ghost use Rattle.model.specs.Parts.{putTraded};
-use forms::form_of;
+use forms::bid_form;
+use forms::market_form;
 use ledger::row_of;
 use ledger::with_row;
 use model::answer::Outcome;
-use model::call::Call;
 use model::parts::Form;
 use model::parts::Traded;
 use model::state::Exchange;
@@ -52,14 +52,7 @@ pub fn bid(
     requires { ⌜ Reachable x ⌝ }
     ensures { λ r. ⌜ r ≡ bidOf x market member block side base bound ⌝ }
 {
-    let form = form_of(Call::Bid {
-        market,
-        member,
-        block,
-        side,
-        base,
-        bound,
-    });
+    let form = bid_form(market, member, side, base);
     match form {
         Form::Bad(why) => refused(x, why),
         Form::Good => {
@@ -84,7 +77,7 @@ pub fn settle(x: Exchange, market: u32, block: u32) -> Outcome
     requires { ⌜ Reachable x ⌝ }
     ensures { λ r. ⌜ r ≡ settleOf x market block ⌝ }
 {
-    let form = form_of(Call::Settle { market, block });
+    let form = market_form(market);
     match form {
         Form::Bad(why) => refused(x, why),
         Form::Good => {

@@ -6,11 +6,10 @@ ghost use Rattle.model.specs.Calls.{claimOf};
 ghost use Rattle.model.specs.Run.{Reachable};
 ghost use Prim.Native.Nat.{_<_};
 ghost use Rattle.model.specs.Parts.{putClaimed};
-use forms::form_of;
+use forms::ticket_form;
 use ledger::row_of;
 use ledger::with_row;
 use model::answer::Outcome;
-use model::call::Call;
 use model::parts::Claimed;
 use model::parts::Form;
 use model::state::Exchange;
@@ -52,7 +51,7 @@ pub fn claim(x: Exchange, ticket: u32) -> Outcome
     requires { ⌜ Reachable x ⌝ }
     ensures { λ r. ⌜ r ≡ claimOf x ticket ⌝ }
 {
-    let form = form_of(Call::Claim { ticket });
+    let form = ticket_form(ticket);
     match form {
         Form::Bad(why) => refused(x, why),
         Form::Good => {

@@ -2,7 +2,6 @@
 ghost use mathlib.Core.Path.{_≡_};
 ghost use Rattle.model.specs.Parts.{
   formOf,
-  callForm,
   bankForm,
   orderForm,
   cancelForm,
@@ -12,7 +11,6 @@ ghost use Rattle.model.specs.Parts.{
   bidForm,
 };
 use model::answer::Refusal;
-use model::call::Call;
 use model::parts::Form;
 
 // The numbers that a call may name.
@@ -37,7 +35,7 @@ const WIDEST_SLACK: u32 = 500_000;
 const LONGEST_AUCTION: u32 = 64;
 
 // Deposit and withdraw.
-fn bank_form(member: u32, token: u32, amount: u32) -> Form
+pub fn bank_form(member: u32, token: u32, amount: u32) -> Form
     ensures { λ r. ⌜ r ≡ formOf (bankForm member token amount) ⌝ }
 {
     if LAST_MEMBER < member {
@@ -53,7 +51,7 @@ fn bank_form(member: u32, token: u32, amount: u32) -> Form
 }
 
 // Order.
-fn order_form(ticket: u32, member: u32, market: u32, side: u32, limit: u32, amount: u32) -> Form
+pub fn order_form(ticket: u32, member: u32, market: u32, side: u32, limit: u32, amount: u32) -> Form
     ensures { λ r. ⌜ r ≡ formOf (orderForm ticket member market side limit amount) ⌝ }
 {
     if LAST_MEMBER < member {
@@ -84,7 +82,7 @@ fn order_form(ticket: u32, member: u32, market: u32, side: u32, limit: u32, amou
 }
 
 // Cancel.
-fn cancel_form(ticket: u32, member: u32) -> Form
+pub fn cancel_form(ticket: u32, member: u32) -> Form
     ensures { λ r. ⌜ r ≡ formOf (cancelForm ticket member) ⌝ }
 {
     if LAST_MEMBER < member {
@@ -97,7 +95,7 @@ fn cancel_form(ticket: u32, member: u32) -> Form
 }
 
 // Open.
-fn open_form(market: u32, reference: u32, slack: u32, length: u32) -> Form
+pub fn open_form(market: u32, reference: u32, slack: u32, length: u32) -> Form
     ensures { λ r. ⌜ r ≡ formOf (openForm market reference slack length) ⌝ }
 {
     if market < FIRST_MARKET {
@@ -125,7 +123,7 @@ fn open_form(market: u32, reference: u32, slack: u32, length: u32) -> Form
 }
 
 // Enter and claim.
-fn ticket_form(ticket: u32) -> Form
+pub fn ticket_form(ticket: u32) -> Form
     ensures { λ r. ⌜ r ≡ formOf (ticketForm ticket) ⌝ }
 {
     if LAST_TICKET < ticket {
@@ -135,7 +133,7 @@ fn ticket_form(ticket: u32) -> Form
 }
 
 // Match and settle.
-fn market_form(market: u32) -> Form
+pub fn market_form(market: u32) -> Form
     ensures { λ r. ⌜ r ≡ formOf (marketForm market) ⌝ }
 {
     if market < FIRST_MARKET {
@@ -148,7 +146,7 @@ fn market_form(market: u32) -> Form
 }
 
 // Bid.
-fn bid_form(market: u32, member: u32, side: u32, base: u32) -> Form
+pub fn bid_form(market: u32, member: u32, side: u32, base: u32) -> Form
     ensures { λ r. ⌜ r ≡ formOf (bidForm market member side base) ⌝ }
 {
     if LAST_MEMBER < member {
@@ -167,50 +165,4 @@ fn bid_form(market: u32, member: u32, side: u32, base: u32) -> Form
         return Form::Bad(Refusal::BadAmountOrLimit);
     }
     Form::Good
-}
-
-// The form of a call.
-pub fn form_of(c: Call) -> Form
-    ensures { λ r. ⌜ r ≡ formOf (callForm c) ⌝ }
-{
-    match c {
-        Call::Deposit {
-            member,
-            token,
-            amount,
-        } => bank_form(member, token, amount),
-        Call::Withdraw {
-            member,
-            token,
-            amount,
-        } => bank_form(member, token, amount),
-        Call::Order {
-            ticket,
-            member,
-            market,
-            side,
-            limit,
-            amount,
-        } => { order_form(ticket, member, market, side, limit, amount) }
-        Call::Cancel { ticket, member } => cancel_form(ticket, member),
-        Call::Open {
-            market,
-            block: _,
-            reference,
-            slack,
-            length,
-        } => { open_form(market, reference, slack, length) }
-        Call::Enter { ticket } => ticket_form(ticket),
-        Call::Match { market, block: _ } => market_form(market),
-        Call::Bid {
-            market,
-            member,
-            block: _,
-            side,
-            base,
-            bound: _,
-        } => { bid_form(market, member, side, base) }
-        Call::Settle { market, block: _ } => market_form(market),
-        Call::Claim { ticket } => ticket_form(ticket),
-    }
 }

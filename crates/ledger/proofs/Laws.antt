@@ -101,6 +101,15 @@ pub debited-row : (l : Ledger) (m t n : ℕ) → debited l m t n ≡ withRow l m
 unfolding debited
 debited-row l m t n = refl
 
+-- a row where it stands, for a caller that holds a ledger in place
+pub row-place : (l : Ledger) (m : ℕ) → getD (l .rows) m noRow ≡ rowOf l m
+unfolding rowOf
+row-place l m = refl
+
+pub with-row-place : (l : Ledger) (m : ℕ) (r : Row) → _≡_ {A = Ledger} (record { rows = set (l .rows) m r }) (withRow l m r)
+unfolding withRow
+with-row-place l m r = refl
+
 pub row-shaped : (l : Ledger) (m : ℕ) → Shaped l → m < 16 → RowShaped (rowOf l m)
 unfolding rowOf
 row-shaped l m z h = z .cells m h

@@ -22,8 +22,6 @@ use Rattle.model.specs.declared.state.Round.{Round}
 use Rattle.model.specs.declared.state.Phase.the-variants.{Collect, Auction}
 use Rattle.model.specs.declared.state.Market.{Market}
 use Rattle.model.specs.declared.state.Exchange.{Exchange}
-use Rattle.model.specs.declared.call.Call.{Call}
-use Rattle.model.specs.declared.call.Call.the-variants as Call
 use Rattle.model.specs.declared.answer.Answer.the-variants.{Accepted, Refused}
 use Rattle.model.specs.declared.answer.Outcome.{Outcome}
 use Rattle.model.specs.declared.answer.Refusal.{Refusal}
@@ -83,18 +81,6 @@ bidForm market member side n =
     ∷ when (above side 1) NoSuchSide
     ∷ when (eqb n 0) BadAmountOrLimit
     ∷ []
-
-abbrev pub callForm : Call → List (Test Refusal)
-callForm (Call.Deposit member token n) = bankForm member token n
-callForm (Call.Withdraw member token n) = bankForm member token n
-callForm (Call.Order k member market side limit n) = orderForm k member market side limit n
-callForm (Call.Cancel k member) = cancelForm k member
-callForm (Call.Open market at r w len) = openForm market r w len
-callForm (Call.Enter k) = ticketForm k
-callForm (Call.Match market at) = marketForm market
-callForm (Call.Bid market member at side n bound) = bidForm market member side n
-callForm (Call.Settle market at) = marketForm market
-callForm (Call.Claim k) = ticketForm k
 
 unfoldable pub formOf : List (Test Refusal) → Form
 formOf ts = decide ts Bad Good

@@ -4,9 +4,10 @@ ghost use Rattle.model.specs.Calls.{openOf, enterOf, matchOf};
 ghost use Rattle.model.specs.Run.{Reachable};
 ghost use Prim.Native.Nat.{_<_};
 ghost use Rattle.model.specs.Parts.{putJoined};
-use forms::form_of;
+use forms::market_form;
+use forms::open_form;
+use forms::ticket_form;
 use model::answer::Outcome;
-use model::call::Call;
 use model::parts::Form;
 use model::parts::Joined;
 use model::state::Exchange;
@@ -49,13 +50,7 @@ pub fn open(
     requires { ⌜ Reachable x ⌝ }
     ensures { λ r. ⌜ r ≡ openOf x market block reference slack length ⌝ }
 {
-    let form = form_of(Call::Open {
-        market,
-        block,
-        reference,
-        slack,
-        length,
-    });
+    let form = open_form(market, reference, slack, length);
     match form {
         Form::Bad(why) => refused(x, why),
         Form::Good => {
@@ -77,7 +72,7 @@ pub fn enter(x: Exchange, ticket: u32) -> Outcome
     requires { ⌜ Reachable x ⌝ }
     ensures { λ r. ⌜ r ≡ enterOf x ticket ⌝ }
 {
-    let form = form_of(Call::Enter { ticket });
+    let form = ticket_form(ticket);
     match form {
         Form::Bad(why) => refused(x, why),
         Form::Good => {
@@ -94,7 +89,7 @@ pub fn match_round(x: Exchange, market: u32, block: u32) -> Outcome
     requires { ⌜ Reachable x ⌝ }
     ensures { λ r. ⌜ r ≡ matchOf x market block ⌝ }
 {
-    let form = form_of(Call::Match { market, block });
+    let form = market_form(market);
     match form {
         Form::Bad(why) => refused(x, why),
         Form::Good => {

@@ -1,11 +1,11 @@
 // A day's bytes taken as they come, in pieces of any size.
 ghost use Rattle.model.specs.Run.{Reachable};
 ghost use Rattle.replay.specs.Pieces.{streamOf, FedBy, lastBytes};
+use in_place::whole_lines;
 use replay::day::Day;
 use replay::day::Fed;
 use replay::day::LAST_LINE;
 use stream_parts::one_line;
-use stream_parts::whole_lines;
 
 // Takes bytes of the input and writes the answers of the lines that end in them at the start of out: what is answered is that part of the
 // whole day's text. It takes nothing only where there is nothing, or where the next answer line does not fit (21).
@@ -24,6 +24,7 @@ pub fn feed(d: Day, input: &[u8], out: &mut [u8]) -> Fed
         return one_line(d, input, out);
     }
     let r = whole_lines(d, input, out);
+    // no line lies whole in the input, or less is lent than any answer may need: one line, measured exactly
     if r.used == 0 {
         return one_line(d, input, out);
     }

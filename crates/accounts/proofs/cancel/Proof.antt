@@ -15,13 +15,13 @@ use Rattle.accounts.proofs.cancel.Tie as tie
 
 -- the form was found good
 formed : (c : tie.After-enum-told) → let a = c .before .before .before .args in formOf (cancelForm (a .ticket) (a .member)) ≡ Good
-formed c = sym (c .before .before .form-of .ensures) ∙ c .enum-told .given .1
+formed c = sym (c .before .before .cancel-form .ensures) ∙ c .enum-told .given .1
 
 good : (c : tie.After-enum-told) → let a = c .before .before .before .args in (a .ticket < 64) × (a .member < 16)
 good c = let a = c .before .before .before .args in cancel-places (a .ticket) (a .member) (formed c)
 
-form-of-requires : tie.Need-form-of-requires
-form-of-requires c κs = search needs
+cancel-form-requires : tie.Need-cancel-form-requires
+cancel-form-requires c κs = search needs
 
 enum-known-form : tie.Need-enum-known-form
 enum-known-form c = search needs
@@ -53,7 +53,7 @@ put-placed-requires c κs = let g = good (c .before .before .before) in omega ar
 returns : tie.Need-returns
 returns c = let a = c .before .before .before .before .before .args in
     c .refused .ensures
-    ∙ sym (cancel-on (a .x) (a .member) (a .ticket) ∙ after-bad (a .x) _ (sym (c .before .before .before .before .form-of .ensures) ∙ c .before .before .form .given .1))
+    ∙ sym (cancel-on (a .x) (a .member) (a .ticket) ∙ after-bad (a .x) _ (sym (c .before .before .before .before .cancel-form .ensures) ∙ c .before .before .form .given .1))
 
 returns-2 : tie.Need-returns-2
 returns-2 c = let a = c .before .before .before .before .before .before .before .args in
@@ -67,7 +67,7 @@ pub cancel-spec : {M : Type 1} → statement M
 cancel-spec =
     tie.close
     (tie.spec
-    form-of-requires
+    cancel-form-requires
     enum-known-form
     refused-requires
     enum-told

@@ -17,13 +17,13 @@ use Rattle.accounts.proofs.order.Tie as tie
 
 -- the form was found good
 formed : (c : tie.After-enum-told) → let a = c .before .before .before .args in formOf (orderForm (a .ticket) (a .member) (a .market) (a .side) (a .limit) (a .amount)) ≡ Good
-formed c = sym (c .before .before .form-of .ensures) ∙ c .enum-told .given .1
+formed c = sym (c .before .before .order-form .ensures) ∙ c .enum-told .given .1
 
 good : (c : tie.After-enum-told) → let a = c .before .before .before .args in (a .ticket < 64) × (a .member < 16) × (a .market < 4)
 good c = let a = c .before .before .before .args in order-places (a .ticket) (a .member) (a .market) (a .side) (a .limit) (a .amount) (formed c)
 
-form-of-requires : tie.Need-form-of-requires
-form-of-requires c κs = search needs
+order-form-requires : tie.Need-order-form-requires
+order-form-requires c κs = search needs
 
 enum-known-form : tie.Need-enum-known-form
 enum-known-form c = search needs
@@ -52,7 +52,7 @@ put-placed-requires c κs = let g = good (c .before .before .before .before) in 
 returns : tie.Need-returns
 returns c = let a = c .before .before .before .before .before .args in
     c .refused .ensures
-    ∙ sym (order-on (a .x) (a .member) (a .ticket) (a .market) (a .side) (a .limit) (a .amount) ∙ after-bad (a .x) _ (sym (c .before .before .before .before .form-of .ensures) ∙ c .before .before .form .given .1))
+    ∙ sym (order-on (a .x) (a .member) (a .ticket) (a .market) (a .side) (a .limit) (a .amount) ∙ after-bad (a .x) _ (sym (c .before .before .before .before .order-form .ensures) ∙ c .before .before .form .given .1))
 
 returns-2 : tie.Need-returns-2
 returns-2 c = let a = c .before .before .before .before .before .before .before .before .args in
@@ -68,7 +68,7 @@ pub order-spec : {M : Type 1} → statement M
 order-spec =
     tie.close
     (tie.spec
-    form-of-requires
+    order-form-requires
     enum-known-form
     refused-requires
     enum-told

@@ -15,13 +15,13 @@ use Rattle.accounts.proofs.withdraw.Tie as tie
 
 -- the form was found good
 formed : (c : tie.After-enum-told) → let a = c .before .before .before .args in formOf (bankForm (a .member) (a .token) (a .amount)) ≡ Good
-formed c = sym (c .before .before .form-of .ensures) ∙ c .enum-told .given .1
+formed c = sym (c .before .before .bank-form .ensures) ∙ c .enum-told .given .1
 
 good : (c : tie.After-enum-told) → let a = c .before .before .before .args in (a .member < 16) × (a .token < 4)
 good c = let a = c .before .before .before .args in bank-places (a .member) (a .token) (a .amount) (formed c)
 
-form-of-requires : tie.Need-form-of-requires
-form-of-requires c κs = search needs
+bank-form-requires : tie.Need-bank-form-requires
+bank-form-requires c κs = search needs
 
 enum-known-form : tie.Need-enum-known-form
 enum-known-form c = search needs
@@ -52,7 +52,7 @@ put-banked-requires c κs = let g = good (c .before .before .before) in omega ar
 
 returns : tie.Need-returns
 returns c = let a = c .before .before .before .before .before .args in
-    c .refused .ensures ∙ sym (withdraw-on (a .x) (a .member) (a .token) (a .amount) ∙ after-bad (a .x) _ (sym (c .before .before .before .before .form-of .ensures) ∙ c .before .before .form .given .1))
+    c .refused .ensures ∙ sym (withdraw-on (a .x) (a .member) (a .token) (a .amount) ∙ after-bad (a .x) _ (sym (c .before .before .before .before .bank-form .ensures) ∙ c .before .before .form .given .1))
 
 returns-2 : tie.Need-returns-2
 returns-2 c = let a = c .before .before .before .before .before .before .before .args in
@@ -66,7 +66,7 @@ pub withdraw-spec : {M : Type 1} → statement M
 withdraw-spec =
     tie.close
     (tie.spec
-    form-of-requires
+    bank-form-requires
     enum-known-form
     refused-requires
     enum-told

@@ -19,13 +19,13 @@ use Rattle.auction.proofs.bid.Tie as tie
 
 -- the form was found good
 formed : (c : tie.After-enum-told) → let a = c .before .before .before .args in formOf (bidForm (a .market) (a .member) (a .side) (a .base)) ≡ Good
-formed c = sym (c .before .before .form-of .ensures) ∙ c .enum-told .given .1
+formed c = sym (c .before .before .bid-form .ensures) ∙ c .enum-told .given .1
 
 good : (c : tie.After-enum-told) → let a = c .before .before .before .args in (0 < a .market) × (a .market < 4) × (a .member < 16)
 good c = let a = c .before .before .before .args in bid-places (a .market) (a .member) (a .side) (a .base) (formed c)
 
-form-of-requires : tie.Need-form-of-requires
-form-of-requires c κs = search needs
+bid-form-requires : tie.Need-bid-form-requires
+bid-form-requires c κs = search needs
 
 enum-known-form : tie.Need-enum-known-form
 enum-known-form c = search needs
@@ -68,7 +68,7 @@ returns c =
     let a = start .args in
     c .refused .ensures
     ∙ sym (bid-on (a .x) (a .market) (a .member) (a .block) (reachable-bounded (a .x) (start .pre) .rows) (a .side) (a .base) (a .bound)
-    ∙ after-bad (a .x) _ (sym (c .before .before .before .before .form-of .ensures) ∙ c .before .before .form .given .1))
+    ∙ after-bad (a .x) _ (sym (c .before .before .before .before .bid-form .ensures) ∙ c .before .before .form .given .1))
 
 -- the work, on the parts taken out
 worked : (c : tie.After-bid) →
@@ -89,7 +89,7 @@ pub bid-spec : {M : Type 1} → statement M
 bid-spec =
     tie.close
     (tie.spec
-    form-of-requires
+    bid-form-requires
     enum-known-form
     refused-requires
     enum-told

@@ -12,13 +12,13 @@ use Rattle.auction.proofs.settle.Tie as tie
 
 -- the form was found good
 formed : (c : tie.After-enum-told) → formOf (marketForm (c .before .before .before .args .market)) ≡ Good
-formed c = sym (c .before .before .form-of .ensures) ∙ c .enum-told .given .1
+formed c = sym (c .before .before .market-form .ensures) ∙ c .enum-told .given .1
 
 good : (c : tie.After-enum-told) → let a = c .before .before .before .args in (0 < a .market) × (a .market < 4)
 good c = market-in (c .before .before .before .args .market) (formed c)
 
-form-of-requires : tie.Need-form-of-requires
-form-of-requires c κs = search needs
+market-form-requires : tie.Need-market-form-requires
+market-form-requires c κs = search needs
 
 enum-known-form : tie.Need-enum-known-form
 enum-known-form c = search needs
@@ -47,7 +47,7 @@ returns c =
     let a = c .before .before .before .before .before .args in
     c .refused .ensures
     ∙ sym (settle-on (a .x) (a .market) (a .block)
-    ∙ after-bad (a .x) _ (sym (c .before .before .before .before .form-of .ensures) ∙ c .before .before .form .given .1))
+    ∙ after-bad (a .x) _ (sym (c .before .before .before .before .market-form .ensures) ∙ c .before .before .form .given .1))
 
 returns-2 : tie.Need-returns-2
 returns-2 c =
@@ -61,7 +61,7 @@ pub settle-spec : {M : Type 1} → statement M
 settle-spec =
     tie.close
     (tie.spec
-    form-of-requires
+    market-form-requires
     enum-known-form
     refused-requires
     enum-told

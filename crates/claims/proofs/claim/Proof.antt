@@ -6,8 +6,8 @@ use Rattle.claims.proofs.Laws.{claim-bad, ticket-below, claim-places, c
 use Rattle.claims.proofs.claim.Statement.{statement}
 use Rattle.claims.proofs.claim.Tie as tie
 
-form-of-requires : tie.Need-form-of-requires
-form-of-requires c κs = search needs
+ticket-form-requires : tie.Need-ticket-form-requires
+ticket-form-requires c κs = search needs
 
 enum-known-form : tie.Need-enum-known-form
 enum-known-form c = search needs
@@ -21,7 +21,7 @@ enum-told c = search needs
 ticket-at-requires : tie.Need-ticket-at-requires
 ticket-at-requires c κs =
     let start = c .before .before .before in
-    let h = ticket-below (start .args .x) (start .pre) (start .args .ticket) _ (c .before .before .form-of .ensures) (c .enum-told .given .1) in
+    let h = ticket-below (start .args .x) (start .pre) (start .args .ticket) _ (c .before .before .ticket-form .ensures) (c .enum-told .given .1) in
     omega (arith, h)
 
 ticket-market-requires : tie.Need-ticket-market-requires
@@ -35,7 +35,7 @@ returns c =
     let start = c .before .before .before .before .before in
     let a = start .args in
     c .refused .ensures
-    ∙ sym (claim-bad (a .x) (start .pre) (a .ticket) _ (c .before .before .before .before .form-of .ensures) _ (c .before .before .form .given .1))
+    ∙ sym (claim-bad (a .x) (start .pre) (a .ticket) _ (c .before .before .before .before .ticket-form .ensures) _ (c .before .before .form .given .1))
 
 -- below, m is the place where the ticket's market and member are known
 
@@ -45,7 +45,7 @@ returns-2 c =
     let start = m .before .before .before .before .before .before in
     let a = start .args in
     c .put-claimed .ensures
-    ∙ claim-put (a .x) (start .pre) (a .ticket) _ (m .before .before .before .before .before .form-of .ensures) (m .before .before .before .enum-told .given .1) _ _ _
+    ∙ claim-put (a .x) (start .pre) (a .ticket) _ (m .before .before .before .before .before .ticket-form .ensures) (m .before .before .before .enum-told .given .1) _ _ _
     (m .before .before .ticket-at .ensures) (m .before .ticket-market .ensures) (m .ticket-member .ensures) _ _ _ _
     (c .before .before .before .before .market-at .ensures) (c .before .before .before .before .before .row-of .ensures) (c .before .before .before .residue-at .ensures) (c .before .before .residue-at2 .ensures) _
     (c .before .claim .ensures)
@@ -54,7 +54,7 @@ row-of-requires : tie.Need-row-of-requires
 row-of-requires c κs =
     let start = c .before .before .before .before .before .before in
     let a = start .args in
-    let p = claim-places (a .x) (start .pre) (a .ticket) _ (c .before .before .before .before .before .form-of .ensures) (c .before .before .before .enum-told .given .1) _ _ _
+    let p = claim-places (a .x) (start .pre) (a .ticket) _ (c .before .before .before .before .before .ticket-form .ensures) (c .before .before .before .enum-told .given .1) _ _ _
     (c .before .before .ticket-at .ensures) (c .before .ticket-market .ensures) (c .ticket-member .ensures) in
     omega (arith, p .3)
 
@@ -63,7 +63,7 @@ market-at-requires c κs =
     let m = c .before in
     let start = m .before .before .before .before .before .before in
     let a = start .args in
-    let p = claim-places (a .x) (start .pre) (a .ticket) _ (m .before .before .before .before .before .form-of .ensures) (m .before .before .before .enum-told .given .1) _ _ _
+    let p = claim-places (a .x) (start .pre) (a .ticket) _ (m .before .before .before .before .before .ticket-form .ensures) (m .before .before .before .enum-told .given .1) _ _ _
     (m .before .before .ticket-at .ensures) (m .before .ticket-market .ensures) (m .ticket-member .ensures) in
     (omega (arith, p .1), omega (arith, p .2))
 
@@ -75,7 +75,7 @@ residue-at-requires-2 c κs =
     let m = c .before .before .before in
     let start = m .before .before .before .before .before .before in
     let a = start .args in
-    let p = claim-places (a .x) (start .pre) (a .ticket) _ (m .before .before .before .before .before .form-of .ensures) (m .before .before .before .enum-told .given .1) _ _ _
+    let p = claim-places (a .x) (start .pre) (a .ticket) _ (m .before .before .before .before .before .ticket-form .ensures) (m .before .before .before .enum-told .given .1) _ _ _
     (m .before .before .ticket-at .ensures) (m .before .ticket-market .ensures) (m .ticket-member .ensures) in
     omega (arith, p .2)
 
@@ -84,8 +84,8 @@ claim-requires c κs =
     let m = c .before .before .before .before in
     let start = m .before .before .before .before .before .before in
     let a = start .args in (
-      ticket-below (a .x) (start .pre) (a .ticket) _ (m .before .before .before .before .before .form-of .ensures) (m .before .before .before .enum-told .given .1),
-      claim-bounds (a .x) (start .pre) (a .ticket) _ (m .before .before .before .before .before .form-of .ensures) (m .before .before .before .enum-told .given .1) _ _ _
+      ticket-below (a .x) (start .pre) (a .ticket) _ (m .before .before .before .before .before .ticket-form .ensures) (m .before .before .before .enum-told .given .1),
+      claim-bounds (a .x) (start .pre) (a .ticket) _ (m .before .before .before .before .before .ticket-form .ensures) (m .before .before .before .enum-told .given .1) _ _ _
           (m .before .before .ticket-at .ensures) (m .before .ticket-market .ensures) (m .ticket-member .ensures) _ _ _ _
           (c .before .before .market-at .ensures) (c .before .before .before .row-of .ensures) (c .before .residue-at .ensures) (c .residue-at2 .ensures),
     )
@@ -95,7 +95,7 @@ put-claimed-requires c κs =
     let m = c .before .before .before .before .before in
     let start = m .before .before .before .before .before .before in
     let a = start .args in
-    let p = claim-places (a .x) (start .pre) (a .ticket) _ (m .before .before .before .before .before .form-of .ensures) (m .before .before .before .enum-told .given .1) _ _ _
+    let p = claim-places (a .x) (start .pre) (a .ticket) _ (m .before .before .before .before .before .ticket-form .ensures) (m .before .before .before .enum-told .given .1) _ _ _
     (m .before .before .ticket-at .ensures) (m .before .ticket-market .ensures) (m .ticket-member .ensures) in
     (omega (arith, p .0), omega (arith, p .1), omega (arith, p .2), omega (arith, p .3))
 
@@ -103,7 +103,7 @@ pub claim-spec : {M : Type 1} → statement M
 claim-spec =
     tie.close
     (tie.spec
-    form-of-requires
+    ticket-form-requires
     enum-known-form
     refused-requires
     enum-told

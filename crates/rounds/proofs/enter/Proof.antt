@@ -16,8 +16,8 @@ use Rattle.rounds.proofs.Laws.{enter-asks}
 use Rattle.rounds.proofs.enter.Statement.{statement}
 use Rattle.rounds.proofs.enter.Tie as tie
 
-form-of-requires : tie.Need-form-of-requires
-form-of-requires c κs = search needs
+ticket-form-requires : tie.Need-ticket-form-requires
+ticket-form-requires c κs = search needs
 
 enum-known-form : tie.Need-enum-known-form
 enum-known-form c = search needs
@@ -30,7 +30,7 @@ enum-told c = search needs
 
 -- the form is good
 good : (c : tie.After-enum-told) → formOf (ticketForm (c .before .before .before .args .ticket)) ≡ Good
-good c = sym (c .before .before .form-of .ensures) ∙ c .enum-told .given .1
+good c = sym (c .before .before .ticket-form .ensures) ∙ c .enum-told .given .1
 
 -- and says this of its number
 bound : (c : tie.After-enum-told) → c .before .before .before .args .ticket < 64
@@ -79,7 +79,7 @@ put-joined-requires c κs =
 returns : tie.Need-returns
 returns c =
     let a = c .before .before .before .before .before .args in
-    let bad = sym (c .before .before .before .before .form-of .ensures) ∙ c .before .before .form .given .1 in
+    let bad = sym (c .before .before .before .before .ticket-form .ensures) ∙ c .before .before .form .given .1 in
     c .refused .ensures ∙ sym (enter-on (a .x) (a .ticket) ∙ after-bad _ _ bad)
 
 returns-2 : tie.Need-returns-2
@@ -96,7 +96,7 @@ pub enter-spec : {M : Type 1} → statement M
 enter-spec =
     tie.close
     (tie.spec
-    form-of-requires
+    ticket-form-requires
     enum-known-form
     refused-requires
     enum-told

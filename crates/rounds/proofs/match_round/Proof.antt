@@ -11,8 +11,8 @@ use Rattle.rounds.proofs.Laws.{match-asks}
 use Rattle.rounds.proofs.match_round.Statement.{statement}
 use Rattle.rounds.proofs.match_round.Tie as tie
 
-form-of-requires : tie.Need-form-of-requires
-form-of-requires c κs = search needs
+market-form-requires : tie.Need-market-form-requires
+market-form-requires c κs = search needs
 
 enum-known-form : tie.Need-enum-known-form
 enum-known-form c = search needs
@@ -25,7 +25,7 @@ enum-told c = search needs
 
 -- the form is good
 good : (c : tie.After-enum-told) → formOf (marketForm (c .before .before .before .args .market)) ≡ Good
-good c = sym (c .before .before .form-of .ensures) ∙ c .enum-told .given .1
+good c = sym (c .before .before .market-form .ensures) ∙ c .enum-told .given .1
 
 -- and says this of its number
 bounds : (c : tie.After-enum-told) → let a = c .before .before .before .args in (0 < a .market) × (a .market < 4)
@@ -46,7 +46,7 @@ put-moved-requires c κs = let b = bounds (c .before .before) in omega arith
 returns : tie.Need-returns
 returns c =
     let a = c .before .before .before .before .before .args in
-    let bad = sym (c .before .before .before .before .form-of .ensures) ∙ c .before .before .form .given .1 in
+    let bad = sym (c .before .before .before .before .market-form .ensures) ∙ c .before .before .form .given .1 in
     c .refused .ensures ∙ sym (match-on (a .x) (a .market) (a .block) ∙ after-bad _ _ bad)
 
 returns-2 : tie.Need-returns-2
@@ -63,7 +63,7 @@ pub match-round-spec : {M : Type 1} → statement M
 match-round-spec =
     tie.close
     (tie.spec
-    form-of-requires
+    market-form-requires
     enum-known-form
     refused-requires
     enum-told

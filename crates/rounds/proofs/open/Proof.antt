@@ -10,8 +10,8 @@ use Rattle.model.proofs.OnParts.{after-bad, after-good, open-places, open-on}
 use Rattle.rounds.proofs.open.Statement.{statement}
 use Rattle.rounds.proofs.open.Tie as tie
 
-form-of-requires : tie.Need-form-of-requires
-form-of-requires c κs = search needs
+open-form-requires : tie.Need-open-form-requires
+open-form-requires c κs = search needs
 
 enum-known-form : tie.Need-enum-known-form
 enum-known-form c = search needs
@@ -24,7 +24,7 @@ enum-told c = search needs
 
 -- the form is good
 good : (c : tie.After-enum-told) → let a = c .before .before .before .args in formOf (openForm (a .market) (a .reference) (a .slack) (a .length)) ≡ Good
-good c = sym (c .before .before .form-of .ensures) ∙ c .enum-told .given .1
+good c = sym (c .before .before .open-form .ensures) ∙ c .enum-told .given .1
 
 -- and says this of its numbers
 bounds : (c : tie.After-enum-told) →
@@ -43,7 +43,7 @@ put-moved-requires c κs = let b = bounds (c .before .before) in omega arith
 returns : tie.Need-returns
 returns c =
     let a = c .before .before .before .before .before .args in
-    let bad = sym (c .before .before .before .before .form-of .ensures) ∙ c .before .before .form .given .1 in
+    let bad = sym (c .before .before .before .before .open-form .ensures) ∙ c .before .before .form .given .1 in
     c .refused .ensures
     ∙ sym (open-on (a .x) (a .market) (a .block) (a .reference) (a .slack) (a .length) ∙ after-bad _ _ bad)
 
@@ -61,7 +61,7 @@ pub open-spec : {M : Type 1} → statement M
 open-spec =
     tie.close
     (tie.spec
-    form-of-requires
+    open-form-requires
     enum-known-form
     refused-requires
     enum-told
