@@ -1,9 +1,9 @@
 -- Laws of `digits`: the last digit and the digits before it.
-use mathlib.Core.Path.{_≡_, refl, ap, _∙_}
+use mathlib.Core.Path.{_≡_, refl, sym, ap, _∙_}
 use Prim.Native.Nat.{ℕ, zero, suc, _+_, _/_, _%_, _≤_, _<_, _^_}
 use native.Mathlib.Omega.{arith}
 use lib.Dec.{lit<}
-use native.Mathlib.Nat.{div-lt-iff-lt-mul, pow-suc, not-suc-le-zero}
+use native.Mathlib.Nat.{div-lt-iff-lt-mul, le-div-iff-mul-le, mod-eq-of-lt, one-le-pow, pow-suc, not-suc-le-zero}
 use mathlib.Core.List.{List, [], _∷_, _++_}
 use lib.ListN.{length, length-append}
 use Rattle.units.specs.Decimal.{leading, digits}
@@ -37,23 +37,50 @@ pub digits-step : (n : ℕ) → digits n ≡ lead (n / 10) ++ ((48 + n % 10) ∷
 unfolding digits lead
 digits-step n = ap (λ (l : List ℕ). l ++ ((48 + n % 10) ∷ [])) (fuel n (n / 10) (n / 10) (omega arith) (omega arith))
 
-pub lead-length : (m : ℕ) → 0 < m → length (lead m) ≡ length (lead (m / 10)) + 1
+lead-digits : (m : ℕ) → 0 < m → lead m ≡ digits m
+lead-digits m h = lead-step m h ∙ sym (digits-step m)
+
+lead-length : (m : ℕ) → 0 < m → length (lead m) ≡ length (lead (m / 10)) + 1
 lead-length m h = ap length (lead-step m h) ∙ length-append (lead (m / 10)) _
 
-pub digits-length : (n : ℕ) → length (digits n) ≡ length (lead (n / 10)) + 1
+digits-length : (n : ℕ) → length (digits n) ≡ length (lead (n / 10)) + 1
 digits-length n = ap length (digits-step n) ∙ length-append (lead (n / 10)) _
 
 pub lead-none : (m : ℕ) → m ≤ 0 → lead m ≡ []
 lead-none zero h = lead-zero
 lead-none (suc m) h = absurd (not-suc-le-zero h)
 
--- m below 10 to the f has at most f digits
-pub lead-bound : (f m : ℕ) → m < 10 ^ f → length (lead m) ≤ f
-lead-bound zero m h = omega (arith, ap length (lead-none m (omega arith)))
-lead-bound (suc f) zero h = omega (arith, ap length lead-zero)
-lead-bound (suc f) (suc m) h =
-    let less : suc m / 10 < 10 ^ f = div-lt-iff-lt-mul {k = 10} (lit< tt) .1 (rw pow-suc at h) in
-    omega (arith, lead-length (suc m) (omega arith), lead-bound f (suc m / 10) less)
+-- one digit, and more
+pub digits-one : (n : ℕ) → n ≤ 9 → digits n ≡ (48 + n) ∷ []
+digits-one n h = digits-step n ∙ rw (lead-none (n / 10) (omega arith), mod-eq-of-lt {n = n} {m = 10} (omega arith))
+
+pub digits-more : (n : ℕ) → 9 < n → digits n ≡ digits (n / 10) ++ ((48 + n % 10) ∷ [])
+digits-more n h = digits-step n ∙ ap (λ (l : List ℕ). l ++ ((48 + n % 10) ∷ [])) (lead-digits (n / 10) (omega arith))
+
+pub digits-longer : (n : ℕ) → 9 < n → length (digits n) ≡ length (digits (n / 10)) + 1
+digits-longer n h = ap length (digits-more n h) ∙ length-append (digits (n / 10)) _
+
+-- m below 10 to the k has at most k digits
+lead-most : (k m : ℕ) → m < 10 ^ k → length (lead m) ≤ k
+lead-most zero m h = omega (arith, ap length (lead-none m (omega arith)))
+lead-most (suc k) zero h = omega (arith, ap length lead-zero)
+lead-most (suc k) (suc m) h =
+    let less : suc m / 10 < 10 ^ k = div-lt-iff-lt-mul {k = 10} (lit< tt) .1 (rw pow-suc at h) in
+    omega (arith, lead-length (suc m) (omega arith), lead-most k (suc m / 10) less)
+
+pub digits-most : (k n : ℕ) → n < 10 ^ suc k → length (digits n) ≤ suc k
+digits-most k n h = omega (arith, digits-length n, lead-most k (n / 10) (div-lt-iff-lt-mul {k = 10} (lit< tt) .1 (rw pow-suc at h)))
+
+-- n from 10 to the k on has more than k digits
+digits-least : (k n : ℕ) → 10 ^ k ≤ n → k < length (digits n)
+digits-least zero n h = omega (arith, digits-length n)
+digits-least (suc k) n h =
+    let more : 10 ^ k ≤ n / 10 = le-div-iff-mul-le {k = 10} (lit< tt) .1 (rw pow-suc at h) in
+    omega (arith, digits-longer n (omega (arith, more, one-le-pow k 10 (lit< tt))), digits-least k (n / 10) more)
+
+-- n from 10 to the k on and below ten times that has k + 1 digits
+pub digits-count : (k n : ℕ) → 10 ^ k ≤ n → n < 10 ^ suc k → length (digits n) ≡ suc k
+digits-count k n low high = omega (arith, digits-least k n low, digits-most k n high)
 
 pub digits-bound : (n : ℕ) → n < 2 ^ 32 → length (digits n) ≤ 10
-digits-bound n h = omega (arith, digits-length n, lead-bound 9 (n / 10) (omega arith))
+digits-bound n h = digits-most 9 n (omega arith)

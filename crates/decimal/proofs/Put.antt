@@ -5,18 +5,21 @@ use native.Mathlib.Omega.{arith}
 use native.Mathlib.Nat.{le-of-suc-le-suc, not-suc-le-zero, zero-add, add-assoc}
 use mathlib.Core.List.{List, [], _∷_, _++_, append-assoc, append-nil}
 use lib.ListN.{length, take, drop, set, length-append, length-drop, drop-of-length-le}
-use lib.Seq.{take-all, drop-cons, set-at, length-take-le, drop-drop, take-at, drop-append-add}
+use lib.Seq.{take-all, drop-cons, set-at, length-take-le, drop-drop, take-at, drop-append-add, sets, sets-eq}
 use borrow.Author.Tests.{le-leb, lt-leb}
 use Rattle.decimal.specs.Buffer.{putAt, putInto, putCount}
 
 module _ (out text : List ℕ) where
-  pub put-fits : length text ≤ length out → putInto out text ≡ text ++ drop (length text) out
-  unfolding putInto putAt
-  put-fits h = rw (le-leb _ _ h, zero-add)
+  pub put-start : putAt out 0 text ≡ text ++ drop (length text) out
+  unfolding putAt
+  put-start = rw zero-add
 
   pub put-at : length text ≤ length out → putInto out text ≡ putAt out 0 text
   unfolding putInto
   put-at h = rw (le-leb _ _ h)
+
+  pub put-fits : length text ≤ length out → putInto out text ≡ text ++ drop (length text) out
+  put-fits h = put-at h ∙ put-start
 
   pub put-short : length out < length text → putInto out text ≡ out
   unfolding putInto
@@ -57,7 +60,7 @@ put-part xs t at h =
 
 -- text put into the part from at on, and then one byte after it
 pub put-field : (xs d : List ℕ) (at e : ℕ) → at + length d + 1 ≤ length xs
-    → set (take at xs ++ (putInto (drop at xs) d ++ drop (length xs - at) (drop at xs))) (at + length d) e
+    → set (take at xs ++ (putAt (drop at xs) 0 d ++ drop (length xs - at) (drop at xs))) (at + length d) e
     ≡ putAt xs at (d ++ (e ∷ []))
 unfolding putAt
 put-field xs d at e h =
@@ -67,9 +70,9 @@ put-field xs d at e h =
     let lp : length p ≡ at + length d = length-append (take at xs) d ∙ ap (λ (k : ℕ). k + length d) (length-take-le at xs (omega arith)) in
     let tail : drop (suc (length d)) rest ≡ drop (at + length (d ++ (e ∷ []))) xs =
     drop-drop (suc (length d)) at xs ∙ ap (λ (k : ℕ). drop (at + k) xs) (omega (arith, length-append d (e ∷ []))) in
-    ap (λ (l : List ℕ). set (take at xs ++ (putInto rest d ++ l)) (at + length d) e) (part-none xs at)
+    ap (λ (l : List ℕ). set (take at xs ++ (putAt rest 0 d ++ l)) (at + length d) e) (part-none xs at)
     ∙ ap (λ (l : List ℕ). set (take at xs ++ l) (at + length d) e)
-    (append-nil (putInto rest d) ∙ put-fits rest d (omega arith) ∙ ap (λ (l : List ℕ). d ++ l) (drop-cons rest (length d) 0 (omega arith)))
+    (append-nil (putAt rest 0 d) ∙ put-start rest d ∙ ap (λ (l : List ℕ). d ++ l) (drop-cons rest (length d) 0 (omega arith)))
     ∙ ap (λ (l : List ℕ). set l (at + length d) e) (sym (append-assoc (take at xs) d _))
     ∙ set-at p _ _ e (at + length d) lp
     ∙ append-assoc (take at xs) d _
@@ -92,27 +95,31 @@ put-put xs a b at h =
     ∙ ap (λ (l : List ℕ). take at xs ++ l) (sym (append-assoc a b _))
     ∙ ap (λ (k : ℕ). take at xs ++ ((a ++ b) ++ drop k xs)) (add-assoc at (length a) (length b) ∙ ap (λ (k : ℕ). at + k) (sym (length-append a b)))
 
--- a run of texts put one after the other from the front: y has t, and p is its length
-pub record Run (xs t y : List ℕ) (p : ℕ) : Type 0 where
-  pub text : y ≡ putAt xs 0 t
-  pub place : p ≡ length t
+-- bytes stored one after the other
+pub put-bytes : (xs bytes : List ℕ) (at : ℕ) → at + length bytes ≤ length xs → sets xs at bytes ≡ putAt xs at bytes
+unfolding putAt
+put-bytes xs bytes at h = sets-eq bytes xs at h ∙ append-assoc (take at xs) bytes _
 
-pub run-one : (xs u y : List ℕ) (p : ℕ) → y ≡ putAt xs 0 u → p ≡ length u → Run xs u y p
-run-one xs u y p e l = record { text = e; place = l }
+-- a run of texts put one after the other from index at on: y has t, and p is the index after it
+pub record Run (xs : List ℕ) (at : ℕ) (t y : List ℕ) (p : ℕ) : Type 0 where
+  pub text : y ≡ putAt xs at t
+  pub place : p ≡ at + length t
 
-pub run-more : (xs t y u z : List ℕ) (p q : ℕ) → Run xs t y p → length t + length u ≤ length xs
-    → z ≡ putAt y p u → q ≡ p + length u → Run xs (t ++ u) z q
-run-more xs t y u z p q r h e l =
+pub run-one : (xs : List ℕ) (at : ℕ) (u y : List ℕ) (p : ℕ) → y ≡ putAt xs at u → p ≡ at + length u → Run xs at u y p
+run-one xs at u y p e l = record { text = e; place = l }
+
+pub run-more : (xs : List ℕ) (at : ℕ) (t y u z : List ℕ) (p q : ℕ) → Run xs at t y p → at + length t + length u ≤ length xs
+    → z ≡ putAt y p u → q ≡ p + length u → Run xs at (t ++ u) z q
+run-more xs at t y u z p q r h e l =
     record {
       text =
           e
           ∙ ap (λ (w : List ℕ). putAt w p u) (r .text)
-          ∙ ap (λ (k : ℕ). putAt (putAt xs 0 t) k u) (r .place ∙ sym (zero-add (length t)))
-          ∙ put-put xs t u 0 (omega arith);
+          ∙ ap (λ (k : ℕ). putAt (putAt xs at t) k u) (r .place)
+          ∙ put-put xs t u at h;
       place = omega (arith, r .place, length-append t u);
     }
 
 -- the whole run that fits
-pub run-all : (xs t y : List ℕ) (p : ℕ) → Run xs t y p → length t ≤ length xs → (p ≡ putCount xs t) × (y ≡ putInto xs t)
-unfolding putInto
-run-all xs t y p r h = (r .place ∙ sym (count-fits xs t h), r .text ∙ rw (le-leb _ _ h))
+pub run-all : (xs t y : List ℕ) (p : ℕ) → Run xs 0 t y p → length t ≤ length xs → (p ≡ putCount xs t) × (y ≡ putInto xs t)
+run-all xs t y p r h = (omega (arith, r .place, count-fits xs t h), r .text ∙ sym (put-at xs t h))

@@ -4,40 +4,59 @@ ghost use mathlib.Core.List.{[], _∷_, _++_};
 ghost use Prim.Native.Nat.{_+_, _≤_};
 ghost use lib.ListN.{length};
 ghost use Rattle.units.specs.Decimal.{digits};
-ghost use Rattle.decimal.specs.Buffer.{putAt, putInto, putCount};
+ghost use Rattle.decimal.specs.Buffer.{putAt};
 
 // How many digits n has, at most ten.
 pub fn digit_count(n: u32) -> usize
     ensures { λ r. ⌜ r ≡ length (digits n) ⌝ }
     ensures { λ r. ⌜ r ≤ 10 ⌝ }
 {
-    let mut m = n / 10;
-    let mut k: usize = 1;
-    while 0 < m {
-        m = m / 10;
-        k = k + 1;
+    if n < 10 {
+        return 1;
     }
-    k
+    if n < 100 {
+        return 2;
+    }
+    if n < 1_000 {
+        return 3;
+    }
+    if n < 10_000 {
+        return 4;
+    }
+    if n < 100_000 {
+        return 5;
+    }
+    if n < 1_000_000 {
+        return 6;
+    }
+    if n < 10_000_000 {
+        return 7;
+    }
+    if n < 100_000_000 {
+        return 8;
+    }
+    if n < 1_000_000_000 {
+        return 9;
+    }
+    10
 }
 
-// Writes n at the start of out and answers how many bytes that took: 0, with out unchanged, where out is too short. Each digit
-// goes straight to its final place.
-pub fn write_number(out: &mut [u8], n: u32) -> usize
-    ensures { λ r. ⌜ r ≡ putCount (now (out .entry)) (digits n) ⌝ }
-    ensures { λ r. ⌜ now (out .exit) ≡ putInto (now (out .entry)) (digits n) ⌝ }
+// Writes n at the start of out and answers how many bytes that took. It asks for that room. Each digit goes straight to its final place.
+fn write_number(out: &mut [u8], n: u32) -> usize
+    requires { ⌜ length (digits n) ≤ length (now out) ⌝ }
+    ensures { λ r. ⌜ r ≡ length (digits n) ⌝ }
+    ensures { λ r. ⌜ now (out .exit) ≡ putAt (now (out .entry)) 0 (digits n) ⌝ }
 {
     let k = digit_count(n);
-    if out.len() < k {
-        return 0;
-    }
-    let mut i = k - 1;
-    let mut m = n / 10;
-    out[i] = (48 + n % 10) as u8;
-    while 0 < m {
+    let mut i = k;
+    let mut m = n;
+    while 9 < m {
+        let q = m / 10;
         i = i - 1;
-        out[i] = (48 + m % 10) as u8;
-        m = m / 10;
+        out[i] = (48 + (m - q * 10)) as u8;
+        m = q;
     }
+    out[0] = (48 + m) as u8;
     k
 }
 

@@ -8,9 +8,10 @@ use lib.ListN.{length, take, drop}
 use lib.Seq.{take-append-seam}
 use lib.Dec.{leb, eqb}
 use borrow.Author.Tests.{le-leb, lt-leb}
+use Rattle.units.proofs.Cases.{by-test}
 use Rattle.fields.specs.Grammar.{isDigit, partsOf, consNumber, numberOf, allNumbers, lineNumbers}
 use Rattle.fields.specs.Fields.{isFieldByte, fieldBytes, fieldsEnd, withNumbers, fieldsAt}
-use Rattle.fields.proofs.Scan.{by-test, onAll, all-cons, all-snoc, first-bad}
+use Rattle.fields.proofs.Scan.{onAll, all-cons, all-snoc, first-bad}
 
 cons-none : (m : Option ℕ) → consNumber m none ≡ none
 cons-none none = refl

@@ -13,10 +13,11 @@ use lib.ListN.{length, length-append, take, drop, set, getD, replicate, drop-of-
 use lib.Seq.{drop-cons, drop-set-lt, drop-drop, take-suc-set, length-take-le}
 use native.Mathlib.Numerals.{add-one}
 use lib.Dec.{leb, ltb, eqb}
-use borrow.Author.Tests.{le-leb, lt-leb, lt-ltb, ne-eqb, leb-true, leb-false, ltb-true, eqb-true, eqb-false, ltb-false}
+use borrow.Author.Tests.{le-leb, lt-leb, lt-ltb, ne-eqb, leb-true, leb-false, ltb-true, eqb-true, eqb-false}
 use Rattle.units.specs.Counts.{largest}
+use Rattle.units.proofs.Cases.{false-not-true, by-test, by-order}
 use Rattle.fields.specs.Grammar.{isDigit, allDigits, valueFrom, isNumber, numberOf, onFirst, partsOf, consNumber, allNumbers}
-use Rattle.fields.specs.Fields.{isFieldByte, fieldBytes, fieldsEnd, withNumbers, fieldStep, commaAt}
+use Rattle.fields.specs.Fields.{isFieldByte, fieldBytes, fieldsEnd, withNumbers, fieldsAt, fieldStep, firstStep, commaAt}
 use Rattle.fields.specs.declared.Fields.{Fields}
 use Rattle.fields.specs.declared.FieldStep.{FieldStep}
 use Rattle.fields.specs.declared.FieldStep.the-variants.{Value, End, Bad}
@@ -42,17 +43,6 @@ and-false false = refl
 and-true : (x : Bool) → (x && true) ≡ x
 and-true true = refl
 and-true false = refl
-
--- false is not true
-pub false-not-true : false ≡ true → ⊥
-false-not-true e = eqb-false 0 0 (sym e) refl
-
-pub by-test {ℓ} : {P : Type ℓ} (t : Bool) → (t ≡ true → P) → (t ≡ false → P) → P
-by-test true f g = f refl
-by-test false f g = g refl
-
-pub by-order {ℓ} : {P : Type ℓ} (a b : ℕ) → (a < b → P) → (b ≤ a → P) → P
-by-order a b f g = by-test (ltb a b) (λ e. f (ltb-true a b e)) (λ e. g (ltb-false a b e))
 
 -- ---- values
 
@@ -301,15 +291,15 @@ digit-field b t = rw (no-comma b t) t
 -- ---- steps of the reader, at index i of the bytes l
 
 module _ (l : List ℕ) (i : ℕ) where
-  pub end-more : i < length l → isFieldByte (getD l i 0) ≡ true → fieldsEnd l i ≡ fieldsEnd l (i + 1)
+  end-more : i < length l → isFieldByte (getD l i 0) ≡ true → fieldsEnd l i ≡ fieldsEnd l (i + 1)
   unfolding fieldsEnd
   end-more h e = rw (drop-cons l i 0 h, e, add-one i) (omega arith)
 
-  pub end-here : i < length l → isFieldByte (getD l i 0) ≡ false → fieldsEnd l i ≡ i
+  end-here : i < length l → isFieldByte (getD l i 0) ≡ false → fieldsEnd l i ≡ i
   unfolding fieldsEnd
   end-here h e = rw (drop-cons l i 0 h, e) (omega arith)
 
-  pub end-past : length l ≤ i → fieldsEnd l i ≡ i
+  end-past : length l ≤ i → fieldsEnd l i ≡ i
   unfolding fieldsEnd
   end-past h = rw (drop-of-length-le l {i = i} h) (omega arith)
 
@@ -329,46 +319,89 @@ module _ (l : List ℕ) (i : ℕ) where
   unfolding commaAt
   comma-not h e = rw (lt-ltb _ _ h) at e
 
-  pub comma-end : commaAt l i ≡ true → fieldsEnd l i ≡ fieldsEnd l (i + 1)
-  comma-end e = end-more (comma-in e) (rw (comma-is-44 e))
+  pub end-digit : i < length l → isDigit (getD l i 0) ≡ true → fieldsEnd l i ≡ fieldsEnd l (i + 1)
+  end-digit h t = end-more h (digit-field (getD l i 0) t)
 
-  pub last-end : Ends → commaAt l i ≡ false → fieldsEnd l i ≡ i
-  last-end (inl h) e = end-past h
-  last-end (inr h) e = end-here (h .0) (rw (comma-not (h .0) e) (h .1))
+  pub end-comma : commaAt l i ≡ true → fieldsEnd l i ≡ fieldsEnd l (i + 1)
+  end-comma e = end-more (comma-in e) (rw (comma-is-44 e))
 
-module _ (l : List ℕ) (i : ℕ) (ns : List ℕ) (s : Bool) (v : ℕ) where
-  pub digit-step : (w : ℕ) → i < length l → fieldStep s v (getD l i 0) ≡ Value w
-      → scan (drop i l) ns s v ≡ scan (drop (i + 1) l) ns true w
-  digit-step w h e = rw (add-one i, drop-cons l i 0 h, no-comma _ (told s v _ (Value w) e), e)
+  pub end-stop : Ends → commaAt l i ≡ false → fieldsEnd l i ≡ i
+  end-stop (inl h) e = end-past h
+  end-stop (inr h) e = end-here (h .0) (rw (comma-not (h .0) e) (h .1))
 
-  pub digit-end : (w : ℕ) → i < length l → fieldStep s v (getD l i 0) ≡ Value w → fieldsEnd l i ≡ fieldsEnd l (i + 1)
-  digit-end w h e = end-more l i h (digit-field (getD l i 0) (told s v (getD l i 0) (Value w) e))
+-- what the reader answers from index i on: ns are the numbers before, s and v the field so far
+abbrev pub rest : List ℕ → ℕ → List ℕ → Bool → ℕ → Fields
+rest l i ns s v = withNumbers (fieldsEnd l i) (scan (drop i l) ns s v)
 
-  pub digit-bad : i < length l → fieldStep s v (getD l i 0) ≡ Bad → scan (drop i l) ns s v ≡ none
-  digit-bad h e = rw (drop-cons l i 0 h, no-comma _ (told s v _ Bad e), e)
+pub at-start : (l : List ℕ) (from : ℕ) → fieldsAt l from ≡ rest l from [] false 0
+unfolding fieldsAt
+at-start l from = ap (withNumbers (fieldsEnd l from)) (scan-line (drop from l))
 
-  pub ends-at : i < length l → fieldStep s v (getD l i 0) ≡ End → Ends l i
-  ends-at h e = inr (h, told s v _ End e)
+-- a byte of a field
+module _ (l : List ℕ) (i : ℕ) (ns : List ℕ) (s : Bool) (v : ℕ) (h : i < length l) where
+  pub digit-step : (w : ℕ) → fieldStep s v (getD l i 0) ≡ Value w → rest l i ns s v ≡ rest l (i + 1) ns true w
+  digit-step w e =
+      let t : isDigit (getD l i 0) ≡ true = told s v _ (Value w) e in
+      rw (end-digit l i h t, add-one i, drop-cons l i 0 h, no-comma _ t, e)
 
-  pub comma-step : commaAt l i ≡ true → scan (drop i l) ns s v ≡ cond s (scan (drop (i + 1) l) (ns ++ (v ∷ [])) false 0) none
-  comma-step e = rw (add-one i, drop-cons l i 0 (comma-in l i e), comma-is-44 l i e)
+  pub digit-bad : fieldStep s v (getD l i 0) ≡ Bad → rest l i ns s v ≡ noFields (fieldsEnd l i)
+  digit-bad e = rw (drop-cons l i 0 h, no-comma _ (told s v _ Bad e), e)
 
-  pub last-field : Ends l i → commaAt l i ≡ false → scan (drop i l) ns s v ≡ cond s (some (ns ++ (v ∷ []))) none
-  last-field (inl h) e = rw (drop-of-length-le l {i = i} h)
-  last-field (inr h) e = rw (drop-cons l i 0 (h .0), comma-not l i (h .0) e, no-digit s v _ (h .1))
+  pub digit-end : fieldStep s v (getD l i 0) ≡ End → Ends l i
+  digit-end e = inr (h, told s v _ End e)
 
-  pub empty-field : s ≡ false → Ends l i → scan (drop i l) ns s v ≡ none
-  empty-field f h =
-      by-test (commaAt l i) (λ e. comma-step e ∙ rw f) (λ e. last-field h e ∙ rw f)
+-- its first byte
+first-is : (l : List ℕ) (i : ℕ) → i < length l → firstStep l i ≡ fieldStep false 0 (getD l i 0)
+unfolding firstStep
+first-is l i h = rw (lt-ltb _ _ h)
 
-  pub ninth-field : (stop : ℕ) → 8 ≤ length ns → Ends l i → withNumbers stop (scan (drop i l) ns s v) ≡ noFields stop
-  ninth-field stop n h =
-      by-test
-      (commaAt l i)
-      (λ e.
-      rw (comma-step e)
-      (long-cond stop s _ (long stop (drop (i + 1) l) (ns ++ (v ∷ [])) false 0 (omega (arith, length-append ns (v ∷ []))))))
-      (λ e. rw (last-field h e) (long-cond stop s _ (long-end stop ns v n)))
+pub first-in : (l : List ℕ) (i w : ℕ) → firstStep l i ≡ Value w → i < length l
+unfolding firstStep
+first-in l i w e =
+    by-test (ltb i (length l)) (ltb-true i (length l)) (λ f. absurd (false-not-true (ap goes (rw f at e))))
+
+module _ (l : List ℕ) (i : ℕ) (ns : List ℕ) where
+  pub first-digit : (w : ℕ) → firstStep l i ≡ Value w → rest l i ns false 0 ≡ rest l (i + 1) ns true w
+  first-digit w e =
+      let h = first-in l i w e in
+      digit-step l i ns false 0 h w (sym (first-is l i h) ∙ e)
+
+  pub no-first : ((k : ℕ → Option (List ℕ)) → onStep (firstStep l i) k none ≡ none) → rest l i ns false 0 ≡ noFields (fieldsEnd l i)
+  no-first e =
+      by-order
+      i
+      (length l)
+      (λ h.
+      rw (drop-cons l i 0 h)
+      (by-test
+      (eqb (getD l i 0) 44)
+      (λ f. rw f)
+      (λ f. rw (f, rw (first-is l i h) at (e (λ w. scan (drop (suc i) l) ns true w))))))
+      (λ h. rw (drop-of-length-le l {i = i} h))
+
+-- the byte after it
+module _ (l : List ℕ) (i : ℕ) (ns : List ℕ) (v : ℕ) where
+  pub comma-step : commaAt l i ≡ true → rest l i ns true v ≡ rest l (i + 1) (ns ++ (v ∷ [])) false 0
+  comma-step e =
+      let c : eqb (getD l i 0) 44 ≡ true = comma-is-44 l i e in
+      let h : i < length l = comma-in l i e in
+      rw (end-comma l i e, add-one i, drop-cons l i 0 h, c)
+
+  pub last-field : Ends l i → commaAt l i ≡ false → rest l i ns true v ≡ withNumbers i (some (ns ++ (v ∷ [])))
+  last-field (inl h) e = rw (end-stop l i (inl h) e, drop-of-length-le l {i = i} h)
+  last-field (inr h) e =
+      let c : eqb (getD l i 0) 44 ≡ false = comma-not l i (h .0) e in
+      rw (end-stop l i (inr h) e, drop-cons l i 0 (h .0), c, no-digit true v _ (h .1))
+
+  pub ninth-field : 8 ≤ length ns → Ends l i → rest l i ns true v ≡ noFields (fieldsEnd l i)
+  ninth-field n (inl h) = rw (drop-of-length-le l {i = i} h) (long-end (fieldsEnd l i) ns v n)
+  ninth-field n (inr h) =
+      let m = ns ++ (v ∷ []) in
+      rw (drop-cons l i 0 (h .0), no-digit true v _ (h .1))
+      (by-test
+      (eqb (getD l i 0) 44)
+      (λ e. rw e (long (fieldsEnd l i) (drop (suc i) l) m false 0 (omega (arith, length-append ns (v ∷ [])))))
+      (λ e. rw e (long-end (fieldsEnd l i) ns v n)))
 
 -- the eight places: those from count on are 0, and v goes to place count
 module _ (vs : List ℕ) (count v : ℕ) (room : count < 8) (eight : length vs ≡ 8) (zeros : drop count vs ≡ replicate (8 - count) 0) where

@@ -48,5 +48,9 @@ fieldStep started v b =
     (cond (started && eqb v 0) Bad (cond (leb (v * 10 + (b - 48)) largest) (Value (v * 10 + (b - 48))) Bad))
     End
 
+-- the byte at a place as a field's first; at the bytes' end there is none
+unfoldable pub firstStep : List ℕ → ℕ → FieldStep
+firstStep bytes at = cond (ltb at (length bytes)) (fieldStep false 0 (getD bytes at 0)) End
+
 unfoldable pub commaAt : List ℕ → ℕ → Bool
 commaAt bytes at = cond (ltb at (length bytes)) (eqb (getD bytes at 0) 44) false

@@ -1,6 +1,7 @@
 // The field reader: the numbers of a line, read where it lies.
 ghost use mathlib.Core.Path.{_≡_};
-ghost use Rattle.fields.specs.Fields.{isFieldByte, commaAt, fieldStep, fieldsEnd, fieldsAt};
+ghost use Rattle.fields.specs.Grammar.{isDigit};
+ghost use Rattle.fields.specs.Fields.{commaAt, fieldStep, firstStep, fieldsEnd, fieldsAt};
 
 // The numbers that a line begins with, the kind and its fields, and the place where the reader stopped: count of the values are numbers,
 // and the others are 0. count is 0 and values are 0 where a field is no number or there are more than MOST_NUMBERS.
@@ -21,6 +22,16 @@ pub enum FieldStep {
     Value(u32),
     End,
     Bad,
+}
+
+// Whether a byte is a digit.
+fn is_digit(b: u8) -> bool
+    ensures { λ r. ⌜ r ≡ isDigit b ⌝ }
+{
+    if b < b'0' {
+        return false;
+    }
+    b <= b'9'
 }
 
 // The byte b after a field's value. started says that the field has a digit already.
@@ -45,6 +56,16 @@ fn field_step(started: bool, value: u32, b: u8) -> FieldStep
     FieldStep::Value(next as u32)
 }
 
+// The byte at a place as a field's first. The field is empty where that is no digit, and at the bytes' end.
+fn first_step(bytes: &[u8], at: usize) -> FieldStep
+    ensures { λ r. ⌜ r ≡ firstStep (now (bytes .entry)) at ⌝ }
+{
+    if at < bytes.len() {
+        return field_step(false, 0, bytes[at]);
+    }
+    FieldStep::End
+}
+
 // Whether a comma stands at a place.
 fn comma_at(bytes: &[u8], at: usize) -> bool
     ensures { λ r. ⌜ r ≡ commaAt (now (bytes .entry)) at ⌝ }
@@ -55,27 +76,20 @@ fn comma_at(bytes: &[u8], at: usize) -> bool
     false
 }
 
-// Whether a byte is a digit or a comma.
-fn is_field_byte(b: u8) -> bool
-    ensures { λ r. ⌜ r ≡ isFieldByte b ⌝ }
-{
-    if b == b',' {
-        return true;
-    }
-    if b < b'0' {
-        return false;
-    }
-    b <= b'9'
-}
-
 // The place of the first byte from a place on that is neither digit nor comma, or the end.
 fn fields_end(bytes: &[u8], from: usize) -> usize
     ensures { λ r. ⌜ r ≡ fieldsEnd (now (bytes .entry)) from ⌝ }
 {
     let mut i = from;
-    while i < bytes.len() {
-        if !is_field_byte(bytes[i]) {
-            return i;
+    'line: loop {
+        while i < bytes.len() {
+            if !is_digit(bytes[i]) {
+                break;
+            }
+            i = i + 1;
+        }
+        if !comma_at(bytes, i) {
+            break 'line;
         }
         i = i + 1;
     }
@@ -92,11 +106,14 @@ pub fn read_fields(bytes: &[u8], from: usize) -> Fields
     let mut i = from;
     let mut good = false;
     'line: loop {
-        // a field: digits up to the byte after them
-        let start = i;
-        let mut value: u32 = 0;
+        // a field: its first digit, then the others up to the byte after them
+        let FieldStep::Value(first) = first_step(bytes, i) else {
+            break 'line;
+        };
+        let mut value = first;
+        i = i + 1;
         while i < n {
-            let d = field_step(start < i, value, bytes[i]);
+            let d = field_step(true, value, bytes[i]);
             match d {
                 FieldStep::Value(next) => {
                     value = next;
@@ -109,9 +126,6 @@ pub fn read_fields(bytes: &[u8], from: usize) -> Fields
                 }
             }
             i = i + 1;
-        }
-        if i == start {
-            break 'line;
         }
         if count == MOST_NUMBERS {
             break 'line;

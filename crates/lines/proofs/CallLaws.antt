@@ -10,10 +10,10 @@ use lib.ListN.{length, getD, take, drop, drop-of-length-le}
 use lib.Seq.{drop-cons, drop-drop, take-all}
 use lib.Dec.{leb, eqb}
 use borrow.Author.Tests.{eq-eqb, ne-eqb, leb-true, leb-false, eqb-true}
+use Rattle.units.proofs.Cases.{by-test}
 use Rattle.fields.specs.declared.Fields.{Fields}
 use Rattle.fields.specs.Grammar.{partsOf, allNumbers, lineNumbers, longestLine}
 use Rattle.fields.specs.Fields.{isFieldByte, fieldBytes, fieldsEnd, withNumbers, fieldsAt}
-use Rattle.fields.proofs.Scan.{by-test}
 use Rattle.fields.proofs.LineLaws.{stops-short, all-field-bytes, line-short, line-long, numbers-in, numbers-many, fields-stop}
 use Rattle.model.specs.declared.call.Call.the-variants.{Deposit, Withdraw, Order, Cancel, Open, Enter, Match, Bid, Settle, Claim}
 use Rattle.lines.specs.declared.call.Reading.{Reading}

@@ -12,8 +12,9 @@ use lib.Dec.{leb, eqb}
 use borrow.Author.Tests.{le-leb, eqb-false, eqb-true}
 use Rattle.units.specs.Counts.{largest}
 use Rattle.units.specs.Decimal.{digits}
+use Rattle.units.proofs.Cases.{false-not-true, by-test, by-order}
 use Rattle.fields.specs.Grammar.{isDigit, allDigits, valueFrom, isNumber, numberOf, onFirst, partsOf, allNumbers, lineNumbers, longestLine}
-use Rattle.fields.proofs.Scan.{false-not-true, by-test, by-order, no-comma, low, high, value-more, all-more, number-good}
+use Rattle.fields.proofs.Scan.{no-comma, low, high, value-more, all-more, number-good}
 use Rattle.fields.proofs.LineLaws.{line-short}
 use Rattle.model.specs.declared.call.Call.{Call}
 use Rattle.model.specs.declared.call.Call.the-variants.{Deposit, Withdraw, Order, Cancel, Open, Enter, Match, Bid, Settle, Claim}

@@ -1,6 +1,7 @@
--- The line before the first answer, and how long an answer line can be.
+-- The line before the first answer, how long an answer line can be, and its text after the number.
 use Prim.Native.Nat.{ℕ}
-use mathlib.Core.List.{List, [], _∷_}
+use mathlib.Core.List.{List, [], _∷_, _++_}
+use Rattle.units.specs.Decimal.{digits}
 
 -- "line,code,first,second" and byte 10
 abbrev pub header : List ℕ
@@ -10,3 +11,10 @@ header =
 -- ten digits for the line's number and for each of an acceptance's numbers, one for its code, three commas and byte 10; a refusal's is shorter
 abbrev pub longestAnswer : ℕ
 longestAnswer = 35
+
+-- what follows the number and its comma: code 0 and two numbers, or a refusal's code and two zeros
+abbrev pub acceptedText : ℕ → ℕ → List ℕ
+acceptedText first second = 48 ∷ 44 ∷ (digits first ++ (44 ∷ (digits second ++ (10 ∷ []))))
+
+abbrev pub refusedText : ℕ → List ℕ
+refusedText code = digits code ++ (44 ∷ 48 ∷ 44 ∷ 48 ∷ 10 ∷ [])

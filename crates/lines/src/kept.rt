@@ -26,10 +26,11 @@ pub fn keep(begun: [u8; 81], before: usize, input: &[u8], end: usize) -> Kept
     let mut len = before;
     let mut i: usize = 0;
     while i < end {
-        if len < KEPT_BYTES {
-            line[len] = input[i];
-            len = len + 1;
+        if len == KEPT_BYTES {
+            break;
         }
+        line[len] = input[i];
+        len = len + 1;
         i = i + 1;
     }
     Kept { len, line }

@@ -1,36 +1,52 @@
--- `decimal::digit_count` meets its contract: k digits are counted, and those of m are left.
-use mathlib.Core.Path.{_≡_, ap}
-use Prim.Native.Nat.{_+_, _≤_}
+-- `decimal::digit_count` meets its contract: n lies between two powers of ten.
+use mathlib.Core.Path.{sym, ap}
 use native.Mathlib.Omega.{arith}
 use lib.ListN.{length}
-use Rattle.units.specs.Decimal.{digits}
-use Rattle.decimal.proofs.Digits.{lead, lead-none, lead-length, digits-length, digits-bound}
+use Rattle.decimal.proofs.Digits.{digits-one, digits-count}
 use Rattle.decimal.proofs.digit_count.Statement.{statement}
 use Rattle.decimal.proofs.digit_count.Tie as tie
 
-abbrev Inv-loop : tie.InvT-loop
-Inv-loop n m₀ k₀ m k = (length (lead m) + k ≡ length (digits n)) × (k + m ≤ n + 1)
+returns : tie.Need-returns
+returns c = (sym (ap length (digits-one (c .before .args .n) (omega arith))), omega arith)
 
-abbrev μ-loop : tie.MeasureT-loop
-μ-loop n m₀ k₀ m k = m
+returns-2 : tie.Need-returns-2
+returns-2 c = (sym (digits-count 1 (c .before .before .args .n) (omega arith) (omega arith)), omega arith)
 
-loop-holds : tie.Need-loop-holds Inv-loop μ-loop
-loop-holds c = (omega (arith, digits-length (c .args .n)), omega arith)
+returns-3 : tie.Need-returns-3
+returns-3 c = (sym (digits-count 2 (c .before .before .before .args .n) (omega arith) (omega arith)), omega arith)
 
-add-k : tie.Need-add-k Inv-loop μ-loop
-add-k c = omega arith
+returns-4 : tie.Need-returns-4
+returns-4 c = (sym (digits-count 3 (c .before .before .before .before .args .n) (omega arith) (omega arith)), omega arith)
 
-loop-less : tie.Need-loop-less Inv-loop μ-loop
-loop-less c = omega arith
+returns-5 : tie.Need-returns-5
+returns-5 c = (sym (digits-count 4 (c .before .before .before .before .before .args .n) (omega arith) (omega arith)), omega arith)
 
-loop-again : tie.Need-loop-again Inv-loop μ-loop
-loop-again c = (omega (arith, lead-length (c .before .loop .m) (c .loop-test .taken)), omega arith)
+returns-6 : tie.Need-returns-6
+returns-6 c = (sym (digits-count 5 (c .before .before .before .before .before .before .args .n) (omega arith) (omega arith)), omega arith)
 
-returns : tie.Need-returns Inv-loop μ-loop
-returns c =
-    let n = c .before .before .args .n in
-    let e : c .before .loop .k ≡ length (digits n) = omega (arith, ap length (lead-none (c .before .loop .m) (c .loop-test .left))) in
-    (e, omega (arith, digits-bound n (c .before .before .fits .n .fits)))
+returns-7 : tie.Need-returns-7
+returns-7 c = (sym (digits-count 6 (c .before .before .before .before .before .before .before .args .n) (omega arith) (omega arith)), omega arith)
+
+returns-8 : tie.Need-returns-8
+returns-8 c = (sym (digits-count 7 (c .before .before .before .before .before .before .before .before .args .n) (omega arith) (omega arith)), omega arith)
+
+returns-9 : tie.Need-returns-9
+returns-9 c = (sym (digits-count 8 (c .before .before .before .before .before .before .before .before .before .args .n) (omega arith) (omega arith)), omega arith)
+
+returns-10 : tie.Need-returns-10
+returns-10 c = (sym (digits-count 9 (c .before .before .before .before .before .before .before .before .before .args .n) (omega arith) (omega arith)), omega arith)
 
 pub digit-count-spec : {M : Type 1} → statement M
-digit-count-spec = tie.close (tie.spec Inv-loop μ-loop loop-holds add-k loop-less loop-again returns)
+digit-count-spec =
+    tie.close
+    (tie.spec
+    returns
+    returns-2
+    returns-3
+    returns-4
+    returns-5
+    returns-6
+    returns-7
+    returns-8
+    returns-9
+    returns-10)

@@ -7,8 +7,8 @@ use borrow.Author.Needs.{needs}
 use borrow.Rule.Slice.PartMut.{same-len-mid}
 use lib.ListN.{length, take, drop, set, length-drop}
 use Rattle.units.specs.Decimal.{digits}
-use Rattle.decimal.specs.Buffer.{putAt, putInto, putCount}
-use Rattle.decimal.proofs.Put.{count-fits, part-all, put-field}
+use Rattle.decimal.specs.Buffer.{putAt}
+use Rattle.decimal.proofs.Put.{part-all, put-field}
 use Rattle.decimal.proofs.write_field.Statement.{statement}
 use Rattle.decimal.proofs.write_field.Tie as tie
 
@@ -22,7 +22,10 @@ part-write-number-end : tie.Need-part-write-number-end
 part-write-number-end c = search needs
 
 write-number-requires : tie.Need-write-number-requires
-write-number-requires c κs = search needs
+write-number-requires c κs =
+    let start = c .before .before in
+    omega
+    (arith, start .pre, ap length (part-all (start .args .out .now) (start .args .at)), length-drop (start .args .at) (start .args .out .now))
 
 -- what the call wrote, by the list at entry
 module _ (c : tie.After-slice-known2) where
@@ -41,14 +44,11 @@ module _ (c : tie.After-slice-known2) where
 
   used : c .before .before .write-number .result ≡ length d
   unfolding xs at d
-  used =
-      c .before .before .write-number .ensures .0
-      ∙ ap (λ (l : List ℕ). putCount l d) (part-all xs at)
-      ∙ count-fits (drop at xs) d (omega (arith, fits, length-drop at xs))
+  used = c .before .before .write-number .ensures .0
 
-  put : c .before .before .write-number .last .0 ≡ putInto (drop at xs) d
+  put : c .before .before .write-number .last .0 ≡ putAt (drop at xs) 0 d
   unfolding xs at d
-  put = c .before .before .write-number .ensures .1 ∙ ap (λ (l : List ℕ). putInto l d) (part-all xs at)
+  put = c .before .before .write-number .ensures .1 ∙ ap (λ (l : List ℕ). putAt l 0 d) (part-all xs at)
 
 add-stop : tie.Need-add-stop
 unfolding xs at d
@@ -68,7 +68,7 @@ same-length : tie.Need-same-length
 same-length c = search needs
 
 -- the end byte, stored where the digits stop
-ended : (xs d ys : List ℕ) (at stop e : ℕ) → stop ≡ at + length d → ys ≡ putInto (drop at xs) d → at + length d + 1 ≤ length xs
+ended : (xs d ys : List ℕ) (at stop e : ℕ) → stop ≡ at + length d → ys ≡ putAt (drop at xs) 0 d → at + length d + 1 ≤ length xs
     → set (take at xs ++ (ys ++ drop (length xs - at) (drop at xs))) stop e ≡ putAt xs at (d ++ (e ∷ []))
 ended xs d ys at stop e s y h = rw (s, y) (put-field xs d at e h)
 

@@ -1,179 +1,128 @@
--- `lines::answer::write_answer` meets its contract: four fields are written one after the other.
-use mathlib.Core.Path.{_≡_, sym, _∙_, subst}
+-- `lines::answer::write_answer` meets its contract: the number is written, and then what follows it by the answer's case.
+use mathlib.Core.Path.{_≡_, sym, ap, _∙_}
+use mathlib.Core.Bool.{false}
 use mathlib.Core.List.{List, _++_}
 use Prim.Native.Nat.{ℕ, _+_, _≤_, _<_}
 use native.Mathlib.Omega.{arith}
 use borrow.Author.Needs.{needs}
+use borrow.Author.Tests.{leb-true, leb-false, not-true, not-false}
+use lib.Dec.{leb}
 use lib.ListN.{length, length-append}
-use Rattle.units.specs.Decimal.{digits}
+use Rattle.decimal.specs.Buffer.{putAt, putInto, putCount}
 use Rattle.decimal.proofs.Put.{put-short, count-short, Run, run-one, run-more, run-all}
-use Rattle.model.specs.declared.answer.Answer.{Answer}
-use Rattle.model.specs.Answers.{codeOf, firstOf, secondOf, answerLine}
-use Rattle.lines.specs.AnswerText.{longestAnswer}
-use Rattle.lines.proofs.AnswerLines.{field, field-length, line-fields, fields-length, answer-bound}
+use Rattle.model.specs.Answers.{answerLine}
+use Rattle.lines.specs.AnswerText.{acceptedText, refusedText}
+use Rattle.lines.proofs.AnswerLines.{field, field-length, accepted-line, refused-line, line-length}
 use Rattle.lines.proofs.answer.write_answer.Statement.{statement}
 use Rattle.lines.proofs.answer.write_answer.Tie as tie
 
-code-requires : tie.Need-code-requires
-code-requires c κs = search needs
+-- text after the line's number: the room that is left for it, and the whole line once it is put
+module _ (xs : List ℕ) (n : ℕ) (line y t : List ℕ) (p : ℕ) (r : Run xs 0 (field n 44) y p) (is : field n 44 ++ t ≡ line) (room : length line ≤ length xs) where
+  long : length line ≡ length (field n 44) + length t
+  long = ap length (sym is) ∙ length-append (field n 44) t
 
-first-requires : tie.Need-first-requires
-first-requires c κs = search needs
+  left : length y ≡ length xs → p + length t ≤ length y
+  left e = omega (arith, long, r .place)
 
-second-requires : tie.Need-second-requires
-second-requires c κs = search needs
+  whole : (z : List ℕ) (q : ℕ) → z ≡ putAt y p t → q ≡ p + length t → (q ≡ putCount xs line) × (z ≡ putInto xs line)
+  whole z q e l = run-all xs line z q (rw is at (run-more xs 0 (field n 44) y t z p q r (omega (arith, long)) e l)) room
 
-digit-count-requires : tie.Need-digit-count-requires
-digit-count-requires c κs = search needs
-
-digit-count-requires-2 : tie.Need-digit-count-requires-2
-digit-count-requires-2 c κs = search needs
-
-add-digits : tie.Need-add-digits
-add-digits c = search needs
-
-digit-count-requires-3 : tie.Need-digit-count-requires-3
-digit-count-requires-3 c κs = search needs
-
-add-digits-2 : tie.Need-add-digits-2
-add-digits-2 c = search needs
-
-digit-count-requires-4 : tie.Need-digit-count-requires-4
-digit-count-requires-4 c κs = search needs
-
-add-digits-3 : tie.Need-add-digits-3
-add-digits-3 c = search needs
-
-add-if1 : tie.Need-add-if1
-add-if1 c = search needs
-
--- the four numbers, and the digits that were counted
-module _ (c : tie.After-digit-count4) where
-  out : List ℕ
-  out = c .before .before .before .before .before .before .before .before .args .out .now
-
-  number : ℕ
-  number = c .before .before .before .before .before .before .before .before .args .number
-
-  answer : Answer
-  answer = c .before .before .before .before .before .before .before .before .args .a
-
-  code : ℕ
-  code = c .before .before .before .before .before .before .code .result
-
-  first : ℕ
-  first = c .before .before .before .before .before .first .result
-
-  second : ℕ
-  second = c .before .before .before .before .second .result
-
-  total : ℕ
-  total = c .before .before .before .digit-count .result + c .before .before .digit-count2 .result + c .before .digit-count3 .result + c .digit-count4 .result + 4
-
-  is-code : code ≡ codeOf answer
-  unfolding code answer
-  is-code = c .before .before .before .before .before .before .code .ensures
-
-  is-first : first ≡ firstOf answer
-  unfolding first answer
-  is-first = c .before .before .before .before .before .first .ensures
-
-  is-second : second ≡ secondOf answer
-  unfolding second answer
-  is-second = c .before .before .before .before .second .ensures
-
-  line : ((field number 44 ++ field code 44) ++ field first 44) ++ field second 10 ≡ answerLine number answer
-  line = line-fields number answer code first second is-code is-first is-second
-
-  counted : total ≡ length (digits number) + length (digits code) + length (digits first) + length (digits second) + 4
-  unfolding total number code first second
-  counted = omega (arith, c .digit-count4 .ensures, c .before .digit-count3 .ensures, c .before .before .digit-count2 .ensures, c .before .before .before .digit-count .ensures)
-
-  long : length (answerLine number answer) ≡ total
-  long = fields-length number answer code first second is-code is-first is-second ∙ sym counted
-
-  bound : length (answerLine number answer) ≤ longestAnswer
-  unfolding number answer first second
-  bound =
-      answer-bound number answer
-      (omega (arith, c .before .before .before .digit-count .ensures))
-      (subst (λ (k : ℕ). length (digits k) ≤ 10) is-first (omega (arith, c .before .digit-count3 .ensures)))
-      (subst (λ (k : ℕ). length (digits k) ≤ 10) is-second (omega (arith, c .digit-count4 .ensures)))
+has-room-requires : tie.Need-has-room-requires
+has-room-requires c κs = search needs
 
 returns : tie.Need-returns
-unfolding out number answer total
 returns c =
-    let here = c .before in
-    let short : length (out here) < length (answerLine (number here) (answer here)) = omega (arith, long here, c .if1 .taken) in
-    (sym (count-short _ _ short), (sym (put-short _ _ short), bound here))
+    let start = c .before .before .before in
+    let line = answerLine (start .args .number) (start .args .a) in
+    let no : leb (length line) (length (start .args .out .now)) ≡ false =
+    sym (c .before .has-room .ensures .0) ∙ not-true (c .before .has-room .result) (c .if1 .taken) in
+    let short : length (start .args .out .now) < length line = leb-false _ _ no in
+    (sym (count-short _ _ short), (sym (put-short _ _ short), c .before .has-room .ensures .1))
+
+-- the line fits
+fits : (c : tie.Else1) → let a = c .before .before .before .args in length (answerLine (a .number) (a .a)) ≤ length (a .out .now)
+fits c = leb-true _ _ (sym (c .before .has-room .ensures .0) ∙ not-false (c .before .has-room .result) (c .if1 .left))
 
 write-field-requires : tie.Need-write-field-requires
-write-field-requires c κs = search needs
+write-field-requires c κs =
+    let a = c .before .before .before .before .args in
+    omega (arith, fits (c .before), line-length (a .number) (a .a))
 
-write-field-requires-2 : tie.Need-write-field-requires-2
-write-field-requires-2 c κs = search needs
+-- its number is written
+numbered : (c : tie.After-write-field)
+    → let a = c .before .before .before .before .before .args in Run (a .out .now) 0 (field (a .number) 44) (c .write-field .last .0) (c .write-field .result)
+numbered c =
+    let a = c .before .before .before .before .before .args in
+    run-one (a .out .now) 0 (field (a .number) 44) _ _ (c .write-field .ensures .1) (omega (arith, field-length (a .number) 44, c .write-field .ensures .0))
 
-write-field-requires-3 : tie.Need-write-field-requires-3
-write-field-requires-3 c κs = search needs
+enum-known-a : tie.Need-enum-known-a
+enum-known-a c = search needs
 
-write-field-requires-4 : tie.Need-write-field-requires-4
-write-field-requires-4 c κs = search needs
+accepted : (c : tie.After-a)
+    → let a = c .before .before .before .before .before .before .before .before .before .args in
+    field (a .number) 44 ++ acceptedText (c .a .given .0 .0) (c .a .given .0 .1 .0) ≡ answerLine (a .number) (a .a)
+accepted c =
+    let a = c .before .before .before .before .before .before .before .before .before .args in
+    accepted-line (a .number) _ _ (a .a) (c .a .given .1)
+
+write-accepted-requires : tie.Need-write-accepted-requires
+write-accepted-requires c κs =
+    let w = c .before .before .before .before .before .before in
+    left _ _ _ _ _ _ (numbered w) (accepted (c .before .before)) (fits (w .before .before)) (w .write-field .kept .0)
+
+enum-known-a-2 : tie.Need-enum-known-a-2
+enum-known-a-2 c = search needs
+
+refusal-code-requires : tie.Need-refusal-code-requires
+refusal-code-requires c κs = search needs
+
+refused : (c : tie.After-refusal-code)
+    → let a = c .before .before .before .before .before .before .before .before .before .before .before .before .args in
+    field (a .number) 44 ++ refusedText (c .refusal-code .result) ≡ answerLine (a .number) (a .a)
+refused c =
+    let a = c .before .before .before .before .before .before .before .before .before .before .before .before .args in
+    refused-line (a .number) _ _ (a .a) (c .refusal-code .ensures) (c .before .before .before .a2 .given .1)
+
+write-refused-requires : tie.Need-write-refused-requires
+write-refused-requires c κs =
+    let w = c .before .before .before .before .before .before .before in
+    left _ _ _ _ _ _ (numbered w) (refused c) (fits (w .before .before)) (w .write-field .kept .0)
 
 same-length : tie.Need-same-length
 same-length c = search needs
 
 returns-2 : tie.Need-returns-2
-unfolding out number answer code first second total
 returns-2 c =
-    let f4 = c .before .before in
-    let f3 = f4 .before .before .before .before in
-    let f2 = f3 .before .before .before .before in
-    let f1 = f2 .before .before .before .before in
-    let here = f1 .before .before .before in
-    let xs = out here in
-    let one = field (number here) 44 in
-    let two = field (code here) 44 in
-    let three = field (first here) 44 in
-    let four = field (second here) 10 in
-    let room : length (digits (number here)) + length (digits (code here)) + length (digits (first here)) + length (digits (second here)) + 4 ≤ length xs =
-    omega (arith, counted here, f1 .before .before .if1 .left) in
-    let l1 = field-length (number here) 44 in
-    let l2 = field-length (code here) 44 in
-    let l3 = field-length (first here) 44 in
-    let l4 = field-length (second here) 10 in
-    let l12 = length-append one two in
-    let l123 = length-append (one ++ two) three in
-    let r1 : Run xs one (f1 .write-field .last .0) (f1 .write-field .result) =
-    run-one xs _ _ _ (f1 .write-field .ensures .1) (omega (arith, l1, f1 .write-field .ensures .0)) in
-    let r2 : Run xs (one ++ two) (f2 .write-field2 .last .0) (f2 .write-field2 .result) =
-    run-more xs _ _ _ _ _ _ r1 (omega (arith, l1, l2, room)) (f2 .write-field2 .ensures .1) (omega (arith, l2, f2 .write-field2 .ensures .0)) in
-    let r3 : Run xs ((one ++ two) ++ three) (f3 .write-field3 .last .0) (f3 .write-field3 .result) =
-    run-more xs _ _ _ _ _ _ r2 (omega (arith, l1, l2, l3, l12, room)) (f3 .write-field3 .ensures .1) (omega (arith, l3, f3 .write-field3 .ensures .0)) in
-    let r4 : Run xs (answerLine (number here) (answer here)) (f4 .write-field4 .last .0) (f4 .write-field4 .result) =
-    rw (line here) at
-    (run-more xs _ _ four (f4 .write-field4 .last .0) _ (f4 .write-field4 .result) r3 (omega (arith, l1, l2, l3, l4, l12, l123, room)) (f4 .write-field4 .ensures .1) (omega (arith, l4, f4 .write-field4 .ensures .0))) in
-    let w = run-all xs _ _ _ r4 (omega (arith, room, counted here, long here)) in
-    (w .0, (w .1, bound here))
+    let here = c .before .before .write-accepted in
+    let told = c .before .before .before .before .before in
+    let w = told .before .before .before .before in
+    let line = whole _ _ _ _ _ _ (numbered w) (accepted told) (fits (w .before .before)) (here .last .0) (here .result) (here .ensures .1) (here .ensures .0) in
+    (line .0, (line .1, w .before .before .before .has-room .ensures .1))
+
+same-length-2 : tie.Need-same-length-2
+same-length-2 c = search needs
+
+returns-3 : tie.Need-returns-3
+returns-3 c =
+    let here = c .before .before .write-refused in
+    let told = c .before .before .before in
+    let w = told .before .before .before .before .before .before .before in
+    let line = whole _ _ _ _ _ _ (numbered w) (refused told) (fits (w .before .before)) (here .last .0) (here .result) (here .ensures .1) (here .ensures .0) in
+    (line .0, (line .1, w .before .before .before .has-room .ensures .1))
 
 pub write-answer-spec : {M : Type 1} → statement M
 write-answer-spec =
     tie.close
     (tie.spec
-    code-requires
-    first-requires
-    second-requires
-    digit-count-requires
-    digit-count-requires-2
-    add-digits
-    digit-count-requires-3
-    add-digits-2
-    digit-count-requires-4
-    add-digits-3
-    add-if1
+    has-room-requires
     returns
     write-field-requires
-    write-field-requires-2
-    write-field-requires-3
-    write-field-requires-4
+    enum-known-a
+    write-accepted-requires
+    enum-known-a-2
+    refusal-code-requires
+    write-refused-requires
     same-length
-    returns-2)
+    returns-2
+    same-length-2
+    returns-3)
