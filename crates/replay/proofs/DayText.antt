@@ -12,8 +12,9 @@ use Rattle.model.specs.declared.state.Exchange.{Exchange}
 use Rattle.model.specs.declared.answer.Outcome.{Outcome}
 use Rattle.model.specs.State.{freshExchange}
 use borrow.Author.Tests.{le-ltb}
+use Rattle.units.proofs.Cases.{by-test, by-order}
 use Rattle.fields.specs.Grammar.{onFirst}
-use Rattle.fields.proofs.Scan.{by-test, by-order, onAll, all-cons, all-snoc}
+use Rattle.fields.proofs.Scan.{onAll, all-cons, all-snoc}
 use Rattle.replay.specs.Lines.{LineRequest, lineOutcome, lineText, lineRequestOf, writtenText, stateAfterLines}
 use Rattle.lines.specs.AnswerText.{header}
 use Rattle.replay.specs.Days.{linesOf, answerText, lastLine, dayOf, dayState, numbered, runText, DayIsRun}

@@ -7,9 +7,9 @@ use native.Mathlib.Nat.{ne-of-gt}
 use lib.Dec.{ltb}
 use lib.ListN.{length}
 use borrow.Author.Tests.{lt-ltb, le-ltb}
+use Rattle.units.proofs.Cases.{by-order}
 use Rattle.decimal.specs.Buffer.{putInto, putCount}
 use Rattle.decimal.proofs.Put.{count-fits, count-short}
-use Rattle.fields.proofs.Scan.{by-order}
 use Rattle.lines.proofs.AnswerLines.{answer-pos}
 use Rattle.model.specs.declared.state.Exchange.{Exchange}
 use Rattle.model.specs.declared.call.Call.{Call}
@@ -90,11 +90,11 @@ module _ (x : Exchange) (q : LineRequest) where
 -- ---- what taking it answers
 
 module _ (x : Exchange) (n : ℕ) (l : List ℕ) (room : ℕ) where
-  taken-none : room < length (lineText x n l) → takenOf x n l room .used ≡ 0
+  taken-none : room < length (lineText x n l) → takenOf x n l room .answered .used ≡ 0
   unfolding takenOf
   taken-none h = rw (lt-ltb _ _ h)
 
-  taken-all : length (lineText x n l) ≤ room → takenOf x n l room .used ≡ length (lineText x n l)
+  taken-all : length (lineText x n l) ≤ room → takenOf x n l room .answered .used ≡ length (lineText x n l)
   unfolding takenOf
   taken-all h = rw (le-ltb _ _ h)
 
@@ -107,15 +107,15 @@ module _ (x : Exchange) (n : ℕ) (l : List ℕ) (room : ℕ) where
   some-text = answer-pos n (lineOutcome x l .answer)
 
   -- 0 bytes tell that its answer did not fit
-  pub taken-short : (t : Taken) → t ≡ takenOf x n l room → t .used ≡ 0 → room < length (lineText x n l)
+  pub taken-short : (t : Taken) → t ≡ takenOf x n l room → t .answered .used ≡ 0 → room < length (lineText x n l)
   taken-short t is e =
-      by-order room (length (lineText x n l)) (λ h. h) (λ h. absurd (ne-of-gt some-text (sym (taken-all h) ∙ sym (ap (λ (r : Taken). r .used) is) ∙ e)))
+      by-order room (length (lineText x n l)) (λ h. h) (λ h. absurd (ne-of-gt some-text (sym (taken-all h) ∙ sym (ap (λ (r : Taken). r .answered .used) is) ∙ e)))
 
-  pub taken-fits : (t : Taken) → t ≡ takenOf x n l room → (t .used ≡ 0 → ⊥) → (length (lineText x n l) ≤ room) × (t .used ≡ length (lineText x n l))
+  pub taken-fits : (t : Taken) → t ≡ takenOf x n l room → (t .answered .used ≡ 0 → ⊥) → (length (lineText x n l) ≤ room) × (t .answered .used ≡ length (lineText x n l))
   taken-fits t is z =
       by-order room (length (lineText x n l))
-      (λ h. absurd (z (ap (λ (r : Taken). r .used) is ∙ taken-none h)))
-      (λ h. (h, ap (λ (r : Taken). r .used) is ∙ taken-all h))
+      (λ h. absurd (z (ap (λ (r : Taken). r .answered .used) is ∙ taken-none h)))
+      (λ h. (h, ap (λ (r : Taken). r .answered .used) is ∙ taken-all h))
 
 -- ---- a line taken: o is its outcome, used and ys what writing its answer into xs answered and left
 
@@ -141,14 +141,14 @@ module _ (x : Exchange) (n : ℕ) (l xs : List ℕ) (o : Outcome) (is : o ≡ li
     counted : used ≡ putCount xs (lineText x n l)
     counted = wrote ∙ ap (putCount xs) text-is
 
-    pub take-short : used ≡ 0 → _≡_ {A = Taken} (record { answer = Refused BufferTooShort; exchange = x; used = 0 }) (takenOf x n l (length xs))
+    pub take-short : used ≡ 0 → _≡_ {A = Taken} (record { answered = record { answer = Refused BufferTooShort; used = 0 }; exchange = x }) (takenOf x n l (length xs))
     unfolding takenOf
     take-short e =
         let q : LineRequest = record { number = n; room = length xs; line = l } in
         let short : length xs < length (lineText x n l) = count-none xs (lineText x n l) (some-text x n l (length xs)) (sym counted ∙ e) in
         sym (rw (line-short x q short, lt-ltb _ _ short))
 
-    pub take-fits : (used ≡ 0 → ⊥) → _≡_ {A = Taken} (record { answer = o .answer; exchange = o .exchange; used = used }) (takenOf x n l (length xs))
+    pub take-fits : (used ≡ 0 → ⊥) → _≡_ {A = Taken} (record { answered = record { answer = o .answer; used = used }; exchange = o .exchange }) (takenOf x n l (length xs))
     unfolding takenOf
     take-fits z =
         let q : LineRequest = record { number = n; room = length xs; line = l } in

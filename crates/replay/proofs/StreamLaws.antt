@@ -10,12 +10,12 @@ use lib.Dec.{ltb, eqb}
 use lib.ListN.{length, take, drop, length-drop}
 use lib.Seq.{take-all, length-take-le, take-add}
 use borrow.Author.Tests.{lt-ltb, le-ltb, eqb-true}
+use Rattle.units.proofs.Cases.{by-test, by-order}
 use Rattle.model.specs.declared.state.Exchange.{Exchange}
 use Rattle.model.specs.declared.answer.Outcome.{Outcome}
 use Rattle.model.specs.Answers.{answerLine}
 use Rattle.model.specs.Run.{Reachable, fitted}
 use Rattle.fields.proofs.LineLaws.{line-long}
-use Rattle.fields.proofs.Scan.{by-test, by-order}
 use Rattle.lines.specs.CallLines.{readingOf, lineIn, lineAt}
 use Rattle.lines.specs.Kept.{keptBytes}
 use Rattle.lines.proofs.KeptLaws.{kept}
@@ -63,7 +63,7 @@ same-taken x n p room =
     ap
     (λ (o : Outcome).
     let t = answerLine n (o .answer) in
-    record { answer = fitted x n room o .answer; exchange = fitted x n room o .exchange; used = length (cond (ltb room (length t)) [] t) })
+    record { answered = record { answer = fitted x n room o .answer; used = length (cond (ltb room (length t)) [] t) }; exchange = fitted x n room o .exchange })
     (same-outcome x p)
 
 -- ---- a stream after the bytes p of a line

@@ -54,11 +54,11 @@ lineRequestOf x q = fitted x (q .number) (q .room) (lineOutcome x (q .line))
 abbrev pub writtenText : Exchange → LineRequest → List ℕ
 writtenText x q = cond (ltb (q .room) (length (lineText x (q .number) (q .line)))) [] (lineText x (q .number) (q .line))
 
--- the outcome, and how many bytes were written
+-- the answer, how many bytes were written, and the state after it
 unfoldable pub takenOf : Exchange → ℕ → List ℕ → ℕ → Taken
 takenOf x number line room =
     let q : LineRequest = record { number = number; room = room; line = line } in
-    record { answer = lineRequestOf x q .answer; exchange = lineRequestOf x q .exchange; used = length (writtenText x q) }
+    record { answered = record { answer = lineRequestOf x q .answer; used = length (writtenText x q) }; exchange = lineRequestOf x q .exchange }
 
 -- ---- a list of lines, each in the state that the line before it left
 

@@ -16,11 +16,16 @@ use model::answer::Refusal;
 use model::state::Exchange;
 use places::refused;
 
-// A line's outcome, and how many bytes its answer line took.
-pub struct Taken {
+// A line's answer, and how many bytes its answer line took.
+pub struct Answered {
     pub answer: Answer,
-    pub exchange: Exchange,
     pub used: usize,
+}
+
+// What is answered, and the state after it.
+pub struct Taken {
+    pub answered: Answered,
+    pub exchange: Exchange,
 }
 
 // What a line that was read does.
@@ -47,15 +52,15 @@ pub fn take_line(x: Exchange, number: u32, line: &[u8], out: &mut [u8]) -> Taken
     let exchange = o.exchange;
     let used = write_answer(out, number, answer);
     if used == 0 {
-        return Taken {
+        let answered = Answered {
             answer: Answer::Refused(Refusal::BufferTooShort),
-            exchange: x,
             used: 0,
         };
+        return Taken {
+            answered,
+            exchange: x,
+        };
     }
-    Taken {
-        answer,
-        exchange,
-        used,
-    }
+    let answered = Answered { answer, used };
+    Taken { answered, exchange }
 }

@@ -1,0 +1,3 @@
+pub mod LineWalk
+pub mod StepWalk
+pub mod Values
