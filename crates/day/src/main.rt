@@ -5,7 +5,7 @@ ghost use Prim.Native.Nat.{_≤_};
 ghost use lib.ListN.{length};
 ghost use Rattle.model.specs.Run.{Reachable};
 ghost use Rattle.lines.specs.AnswerText.{longestAnswer};
-ghost use Rattle.replay.specs.Pieces.{streamOf, after};
+ghost use Rattle.replay.specs.Pieces.{streamOf, after, ended};
 use libc::STDERR_FILENO;
 use libc::STDIN_FILENO;
 use libc::STDOUT_FILENO;
@@ -16,7 +16,7 @@ use replay::day::fresh_day;
 use stream::feed;
 use stream::finish;
 
-// The day after a piece of the input, and whether its answers were written.
+// The day after a piece of the input or after its end, and whether the answers were written.
 struct Step {
     day: Day,
     written: bool,
@@ -108,13 +108,17 @@ fn take_all(d: Day, out: &mut [u8]) -> Ended
     }
 }
 
-// Answers the last line where it has no byte 10; answers whether that was written.
-fn take_last(d: Day, out: &mut [u8]) -> bool
+// Answers the last line where it has no byte 10.
+fn take_last(d: Day, out: &mut [u8]) -> Step
     requires { ⌜ Reachable (d .exchange) ⌝ }
+    requires { ⌜ longestAnswer ≤ length (now out) ⌝ }
+    ensures { λ r. ⌜ streamOf (r .day) ≡ ended (streamOf d) ⌝ }
 {
     let fed = finish(d, out);
+    let day = fed.day;
     let wrote = fed.wrote;
-    io::write_all(STDOUT_FILENO, &out[..wrote])
+    let written = io::write_all(STDOUT_FILENO, &out[..wrote]);
+    Step { day, written }
 }
 
 // Replays the day after its header. Answers how it ended.
@@ -126,7 +130,8 @@ fn replay_day() -> End {
         End::CannotRead => End::CannotRead,
         End::CannotWrite => End::CannotWrite,
         End::Finished => {
-            if take_last(ended.day, &mut out) {
+            let last = take_last(ended.day, &mut out);
+            if last.written {
                 return End::Finished;
             }
             End::CannotWrite

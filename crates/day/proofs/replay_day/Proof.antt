@@ -35,7 +35,10 @@ slice-aggregate-take-last : tie.Need-slice-aggregate-take-last
 slice-aggregate-take-last c = search needs
 
 take-last-requires : tie.Need-take-last-requires
-take-last-requires c κs = c .before .before .before .before .take-all .ensures
+take-last-requires c κs = (
+  c .before .before .before .before .take-all .ensures,
+  omega (arith, c .before .before .before .before .before .before .before .large-buffer .ensures, c .before .before .before .before .take-all .kept .1 .0),
+)
 
 returns : tie.Need-returns
 returns c = search needs
