@@ -1,143 +1,154 @@
-// Kinds 1 to 4, the state by value: the form first, then the work on the parts, and the parts put back.
+// Deposit, withdraw, order and cancel on the parts that they touch. Public for the crates above; what they ask of their parts holds of the
+// parts of every reachable state, and what they ask of numbers is what a call's form gives.
 ghost use mathlib.Core.Path.{_≡_};
-ghost use Rattle.model.specs.Calls.{depositOf, withdrawOf, orderOf, cancelOf};
-ghost use Rattle.model.specs.Run.{Reachable};
+ghost use mathlib.Core.Bool.{not};
 ghost use Prim.Native.Nat.{_<_};
-ghost use Rattle.model.specs.Parts.{putBanked, putPlaced};
-use forms::bank_form;
-use forms::cancel_form;
-use forms::order_form;
-use ledger::row_of;
-use ledger::with_row;
-use model::answer::Outcome;
-use model::parts::Banked;
-use model::parts::Form;
-use model::parts::Placed;
-use model::state::Exchange;
+ghost use Rattle.model.specs.State.{isFree};
+ghost use Rattle.parts.specs.Asked.{BankBounds, CancelBounds};
+ghost use Rattle.parts.specs.Parts.{refusedBanked, depositOn, withdrawOn, refusedPlaced, orderOn, cancelOn};
+use ledger::Row;
+use ledger::cell_of;
+use ledger::credit_row;
+use ledger::debit_row;
+use ledger::entry_amount;
+use model::answer::Answer;
+use model::answer::Refusal;
 use model::state::Order;
-use places::refused;
-use places::supply_at;
-use places::ticket_at;
-use sides::side_of;
+use model::state::Ticket;
+use model::state::TicketState;
+use parts::Banked;
+use parts::Placed;
+use sides::offered_token;
 use units::Amount;
-use units::Price;
 
-// Puts a member's row and a token's supply back.
-fn put_banked(x: Exchange, member: u32, token: u32, p: Banked) -> Outcome
-    requires { ⌜ (member < 16) × (token < 4) ⌝ }
-    ensures { λ r. ⌜ r ≡ putBanked x member token p ⌝ }
+// A refusal leaves the row and the supply.
+fn refused_bank(row: Row, supply: Amount, why: Refusal) -> Banked
+    ensures { λ r. ⌜ r ≡ refusedBanked row supply why ⌝ }
 {
-    let answer = p.answer;
-    let supply = p.supply;
-    let t = token as usize;
-    let ledger = with_row(x.ledger, member, p.row);
-    let mut next = x;
-    next.ledger = ledger;
-    next.supply[t] = supply;
-    Outcome {
-        answer,
-        exchange: next,
+    Banked {
+        answer: Answer::Refused(why),
+        row,
+        supply,
     }
 }
 
-// Puts a member's row and a ticket back.
-fn put_placed(x: Exchange, member: u32, ticket: u32, p: Placed) -> Outcome
-    requires { ⌜ (member < 16) × (ticket < 64) ⌝ }
-    ensures { λ r. ⌜ r ≡ putPlaced x member ticket p ⌝ }
+// 1 Deposit into a member's row and a token's supply.
+pub fn deposit(row: Row, supply: Amount, token: u32, n: Amount) -> Banked
+    requires { ⌜ BankBounds row supply token ⌝ }
+    ensures { λ r. ⌜ r ≡ depositOn row supply token (n .0) ⌝ }
 {
-    let answer = p.answer;
-    let t = p.ticket;
-    let k = ticket as usize;
-    let ledger = with_row(x.ledger, member, p.row);
-    let mut next = x;
-    next.ledger = ledger;
-    next.tickets[k] = t;
-    Outcome {
-        answer,
-        exchange: next,
+    if supply.too_much_with(n) {
+        return refused_bank(row, supply, Refusal::SupplyExceeded);
+    }
+    let p = credit_row(row, token, n);
+    let entry = p.entry;
+    let credited = p.row;
+    let total = supply.plus(n);
+    Banked {
+        answer: Answer::Accepted(entry_amount(entry), 0),
+        row: credited,
+        supply: total,
     }
 }
 
-// 1 Deposit.
-pub fn deposit(x: Exchange, member: u32, token: u32, amount: u32) -> Outcome
-    requires { ⌜ Reachable x ⌝ }
-    ensures { λ r. ⌜ r ≡ depositOf x member token amount ⌝ }
+// 2 Withdraw from a member's row and a token's supply.
+pub fn withdraw(row: Row, supply: Amount, token: u32, n: Amount) -> Banked
+    requires { ⌜ BankBounds row supply token ⌝ }
+    ensures { λ r. ⌜ r ≡ withdrawOn row supply token (n .0) ⌝ }
 {
-    let form = bank_form(member, token, amount);
-    match form {
-        Form::Bad(why) => refused(x, why),
-        Form::Good => {
-            let row = row_of(x.ledger, member);
-            let paid_in = accounts_parts::deposit(row, supply_at(x, token), token, Amount(amount));
-            put_banked(x, member, token, paid_in)
+    let balance = cell_of(row, token);
+    if balance.below(n) {
+        return refused_bank(row, supply, Refusal::InsufficientBalance);
+    }
+    let p = debit_row(row, token, n);
+    let entry = p.entry;
+    let debited = p.row;
+    let rest = supply.minus(n);
+    Banked {
+        answer: Answer::Accepted(entry_amount(entry), 0),
+        row: debited,
+        supply: rest,
+    }
+}
+
+// A refusal leaves the row and the ticket.
+fn refused(row: Row, ticket: Ticket, why: Refusal) -> Placed
+    ensures { λ r. ⌜ r ≡ refusedPlaced row ticket why ⌝ }
+{
+    Placed {
+        answer: Answer::Refused(why),
+        row,
+        ticket,
+    }
+}
+
+// Whether a ticket is in use: it rests or entered.
+fn in_use(ticket: Ticket) -> bool
+    ensures { λ r. ⌜ r ≡ not (isFree (ticket .state)) ⌝ }
+{
+    let state = ticket.state;
+    match state {
+        TicketState::Free => false,
+        TicketState::Resting(_) => true,
+        TicketState::Entered(_) => true,
+    }
+}
+
+// 3 Order: an offer moved from its member's row into a ticket.
+pub fn order(row: Row, ticket: Ticket, o: Order) -> Placed
+    requires { ⌜ o .market < 4 ⌝ }
+    ensures { λ r. ⌜ r ≡ orderOn row ticket o ⌝ }
+{
+    if in_use(ticket) {
+        return refused(row, ticket, Refusal::TicketInUse);
+    }
+    let side = o.side;
+    let offer = o.offer;
+    let token = offered_token(side, o.market);
+    let balance = cell_of(row, token);
+    if balance.below(offer) {
+        return refused(row, ticket, Refusal::InsufficientBalance);
+    }
+    let p = debit_row(row, token, offer);
+    let reserved = p.row;
+    Placed {
+        answer: Answer::Accepted(offer.0, 0),
+        row: reserved,
+        ticket: Ticket {
+            state: TicketState::Resting(o),
+        },
+    }
+}
+
+// 4 Cancel: a resting offer returned to its member's row.
+pub fn cancel(row: Row, ticket: Ticket, member: u32) -> Placed
+    requires { ⌜ CancelBounds row ticket ⌝ }
+    ensures { λ r. ⌜ r ≡ cancelOn row ticket member ⌝ }
+{
+    let state = ticket.state;
+    match state {
+        TicketState::Free => refused(row, ticket, Refusal::NoSuchOrder),
+        TicketState::Resting(o) => {
+            if o.member != member {
+                return refused(row, ticket, Refusal::NoSuchOrder);
+            }
+            let side = o.side;
+            let offer = o.offer;
+            let p = credit_row(row, offered_token(side, o.market), offer);
+            let returned = p.row;
+            Placed {
+                answer: Answer::Accepted(offer.0, 0),
+                row: returned,
+                ticket: Ticket {
+                    state: TicketState::Free,
+                },
+            }
         }
-    }
-}
-
-// 2 Withdraw.
-pub fn withdraw(x: Exchange, member: u32, token: u32, amount: u32) -> Outcome
-    requires { ⌜ Reachable x ⌝ }
-    ensures { λ r. ⌜ r ≡ withdrawOf x member token amount ⌝ }
-{
-    let form = bank_form(member, token, amount);
-    match form {
-        Form::Bad(why) => refused(x, why),
-        Form::Good => {
-            let row = row_of(x.ledger, member);
-            let paid_out = accounts_parts::withdraw(
-                row,
-                supply_at(x, token),
-                token,
-                Amount(amount),
-            );
-            put_banked(x, member, token, paid_out)
-        }
-    }
-}
-
-// 3 Order.
-pub fn order(
-    x: Exchange,
-    ticket: u32,
-    member: u32,
-    market: u32,
-    side: u32,
-    limit: u32,
-    amount: u32,
-) -> Outcome
-    requires { ⌜ Reachable x ⌝ }
-    ensures { λ r. ⌜ r ≡ orderOf x ticket member market side limit amount ⌝ }
-{
-    let form = order_form(ticket, member, market, side, limit, amount);
-    match form {
-        Form::Bad(why) => refused(x, why),
-        Form::Good => {
-            let o = Order {
-                member,
-                market,
-                side: side_of(side),
-                limit: Price(limit),
-                offer: Amount(amount),
-            };
-            let row = row_of(x.ledger, member);
-            let placed = accounts_parts::order(row, ticket_at(x, ticket), o);
-            put_placed(x, member, ticket, placed)
-        }
-    }
-}
-
-// 4 Cancel.
-pub fn cancel(x: Exchange, ticket: u32, member: u32) -> Outcome
-    requires { ⌜ Reachable x ⌝ }
-    ensures { λ r. ⌜ r ≡ cancelOf x ticket member ⌝ }
-{
-    let form = cancel_form(ticket, member);
-    match form {
-        Form::Bad(why) => refused(x, why),
-        Form::Good => {
-            let row = row_of(x.ledger, member);
-            let cancelled = accounts_parts::cancel(row, ticket_at(x, ticket), member);
-            put_placed(x, member, ticket, cancelled)
+        TicketState::Entered(o) => {
+            if o.member == member {
+                return refused(row, ticket, Refusal::WrongTicketState);
+            }
+            refused(row, ticket, Refusal::NoSuchOrder)
         }
     }
 }

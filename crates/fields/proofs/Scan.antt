@@ -279,8 +279,8 @@ goes-is : (s : Bool) (v b : ℕ) → goes (fieldStep s v b) ≡ isDigit b
 unfolding fieldStep
 goes-is s v b = by-test (isDigit b) (λ t. rw t (goes-on (s && eqb v 0) (leb (v * 10 + (b - 48)) largest) _)) (λ t. rw t)
 
-told : (s : Bool) (v b : ℕ) (d : FieldStep) → fieldStep s v b ≡ d → isDigit b ≡ goes d
-told s v b d e = sym (goes-is s v b) ∙ ap goes e
+digit-goes : (s : Bool) (v b : ℕ) (d : FieldStep) → fieldStep s v b ≡ d → isDigit b ≡ goes d
+digit-goes s v b d e = sym (goes-is s v b) ∙ ap goes e
 
 pub no-comma : (b : ℕ) → isDigit b ≡ true → eqb b 44 ≡ false
 no-comma b t = ne-eqb b 44 (λ e. absurd (omega (arith, low b t)))
@@ -341,14 +341,14 @@ at-start l from = ap (withNumbers (fieldsEnd l from)) (scan-line (drop from l))
 module _ (l : List ℕ) (i : ℕ) (ns : List ℕ) (s : Bool) (v : ℕ) (h : i < length l) where
   pub digit-step : (w : ℕ) → fieldStep s v (getD l i 0) ≡ Value w → rest l i ns s v ≡ rest l (i + 1) ns true w
   digit-step w e =
-      let t : isDigit (getD l i 0) ≡ true = told s v _ (Value w) e in
+      let t : isDigit (getD l i 0) ≡ true = digit-goes s v _ (Value w) e in
       rw (end-digit l i h t, add-one i, drop-cons l i 0 h, no-comma _ t, e)
 
   pub digit-bad : fieldStep s v (getD l i 0) ≡ Bad → rest l i ns s v ≡ noFields (fieldsEnd l i)
-  digit-bad e = rw (drop-cons l i 0 h, no-comma _ (told s v _ Bad e), e)
+  digit-bad e = rw (drop-cons l i 0 h, no-comma _ (digit-goes s v _ Bad e), e)
 
   pub digit-end : fieldStep s v (getD l i 0) ≡ End → Ends l i
-  digit-end e = inr (h, told s v _ End e)
+  digit-end e = inr (h, digit-goes s v _ End e)
 
 -- its first byte
 first-is : (l : List ℕ) (i : ℕ) → i < length l → firstStep l i ≡ fieldStep false 0 (getD l i 0)

@@ -1,17 +1,9 @@
 // Refusals that a call's numbers alone decide, first in the paper's order.
 ghost use mathlib.Core.Path.{_≡_};
-ghost use Rattle.model.specs.Parts.{
-  formOf,
-  bankForm,
-  orderForm,
-  cancelForm,
-  openForm,
-  ticketForm,
-  marketForm,
-  bidForm,
-};
+ghost use Rattle.model.specs.Calls.{bankForm, orderForm, cancelForm, openForm, ticketForm, marketForm, bidForm};
+ghost use Rattle.parts.specs.Parts.{formOf};
 use model::answer::Refusal;
-use model::parts::Form;
+use parts::Form;
 
 // The numbers that a call may name.
 const LAST_MEMBER: u32 = 15;

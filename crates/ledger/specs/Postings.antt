@@ -1,8 +1,9 @@
 -- What a ledger call answers and leaves, refusals too.
 use Prim.Native.Nat.{ℕ, _+_, _-_}
-use mathlib.Core.List.{List, [], _∷_}
+use mathlib.Core.List.{List, [], _∷_, _++_}
 use lib.Dec.{ltb}
 use Rattle.units.specs.Counts.{amount, largest}
+use Rattle.units.specs.Ranges.{lastMember, lastToken}
 use Rattle.units.specs.Decide.{Test, when, decide}
 use Rattle.ledger.specs.declared.Row.{Row}
 use Rattle.ledger.specs.declared.Ledger.{Ledger}
@@ -42,7 +43,7 @@ abbrev pub unposted : Ledger → Fault → Posting
 unposted l f = record { entry = Failed f; ledger = l }
 
 abbrev pub placeTests : ℕ → ℕ → List (Test Fault)
-placeTests m t = when (ltb 15 m) NoSuchMember ∷ when (ltb 3 t) NoSuchToken ∷ []
+placeTests m t = when (ltb lastMember m) NoSuchMember ∷ when (ltb lastToken t) NoSuchToken ∷ []
 
 -- a member's balance of a token
 unfoldable pub balanceOf : Ledger → ℕ → ℕ → Entry
@@ -50,10 +51,7 @@ balanceOf l m t = decide (placeTests m t) Failed (Done (amount (balanceIn l m t)
 
 abbrev pub creditTests : Ledger → ℕ → ℕ → ℕ → List (Test Fault)
 creditTests l m t n =
-    when (ltb 15 m) NoSuchMember
-    ∷ when (ltb 3 t) NoSuchToken
-    ∷ when (ltb largest (balanceIn l m t + n)) TooLarge
-    ∷ []
+    placeTests m t ++ (when (ltb largest (balanceIn l m t + n)) TooLarge ∷ [])
 
 -- n more for a member, and the new balance
 unfoldable pub creditOf : Ledger → ℕ → ℕ → ℕ → Posting
@@ -61,10 +59,7 @@ creditOf l m t n = decide (creditTests l m t n) (unposted l) (posted (credited l
 
 abbrev pub debitTests : Ledger → ℕ → ℕ → ℕ → List (Test Fault)
 debitTests l m t n =
-    when (ltb 15 m) NoSuchMember
-    ∷ when (ltb 3 t) NoSuchToken
-    ∷ when (ltb (balanceIn l m t) n) TooSmall
-    ∷ []
+    placeTests m t ++ (when (ltb (balanceIn l m t) n) TooSmall ∷ [])
 
 -- n less, and the new balance
 unfoldable pub debitOf : Ledger → ℕ → ℕ → ℕ → Posting
@@ -80,10 +75,10 @@ unpostedRow r f = record { entry = Failed f; row = r }
 
 unfoldable pub creditRowOf : Row → ℕ → ℕ → RowPosting
 creditRowOf r t n =
-    decide (when (ltb 3 t) NoSuchToken ∷ when (ltb largest (cellOf r t + n)) TooLarge ∷ []) (unpostedRow r)
+    decide (when (ltb lastToken t) NoSuchToken ∷ when (ltb largest (cellOf r t + n)) TooLarge ∷ []) (unpostedRow r)
     (postedRow (creditedRow r t n) (cellOf r t + n))
 
 unfoldable pub debitRowOf : Row → ℕ → ℕ → RowPosting
 debitRowOf r t n =
-    decide (when (ltb 3 t) NoSuchToken ∷ when (ltb (cellOf r t) n) TooSmall ∷ []) (unpostedRow r)
+    decide (when (ltb lastToken t) NoSuchToken ∷ when (ltb (cellOf r t) n) TooSmall ∷ []) (unpostedRow r)
     (postedRow (debitedRow r t n) (cellOf r t - n))

@@ -14,6 +14,11 @@ ghost use Rattle.ledger.specs.Postings.{
 };
 use units::Amount;
 
+// The last member and the last token.
+const LAST_MEMBER: u32 = 15;
+
+const LAST_TOKEN: u32 = 3;
+
 // One member's balances, by token.
 pub struct Row {
     pub cells: [Amount; 4],
@@ -118,7 +123,7 @@ pub fn cell_of(row: Row, token: u32) -> Amount
 pub fn credit_row(row: Row, token: u32, n: Amount) -> RowPosting
     ensures { λ r. ⌜ r ≡ creditRowOf row token (n .0) ⌝ }
 {
-    if 3 < token {
+    if LAST_TOKEN < token {
         return RowPosting {
             entry: Entry::Failed(Fault::NoSuchToken),
             row,
@@ -127,14 +132,13 @@ pub fn credit_row(row: Row, token: u32, n: Amount) -> RowPosting
     let t = token as usize;
     let mut next = row;
     let cell = next.cells[t];
-    let sum = (cell.0 as u64) + (n.0 as u64);
-    if 4_294_967_295 < sum {
+    if cell.too_much_with(n) {
         return RowPosting {
             entry: Entry::Failed(Fault::TooLarge),
             row,
         };
     }
-    let new = Amount(sum as u32);
+    let new = cell.plus(n);
     next.cells[t] = new;
     RowPosting {
         entry: Entry::Done(new),
@@ -146,7 +150,7 @@ pub fn credit_row(row: Row, token: u32, n: Amount) -> RowPosting
 pub fn debit_row(row: Row, token: u32, n: Amount) -> RowPosting
     ensures { λ r. ⌜ r ≡ debitRowOf row token (n .0) ⌝ }
 {
-    if 3 < token {
+    if LAST_TOKEN < token {
         return RowPosting {
             entry: Entry::Failed(Fault::NoSuchToken),
             row,
@@ -155,15 +159,13 @@ pub fn debit_row(row: Row, token: u32, n: Amount) -> RowPosting
     let t = token as usize;
     let mut left = row;
     let cell = left.cells[t];
-    let had = cell.0;
-    let less = n.0;
-    if had < less {
+    if cell.below(n) {
         return RowPosting {
             entry: Entry::Failed(Fault::TooSmall),
             row,
         };
     }
-    let rest = Amount(had - less);
+    let rest = cell.minus(n);
     left.cells[t] = rest;
     RowPosting {
         entry: Entry::Done(rest),
@@ -175,10 +177,10 @@ pub fn debit_row(row: Row, token: u32, n: Amount) -> RowPosting
 pub fn balance(l: Ledger, member: u32, token: u32) -> Entry
     ensures { λ r. ⌜ r ≡ balanceOf l member token ⌝ }
 {
-    if 15 < member {
+    if LAST_MEMBER < member {
         return Entry::Failed(Fault::NoSuchMember);
     }
-    if 3 < token {
+    if LAST_TOKEN < token {
         return Entry::Failed(Fault::NoSuchToken);
     }
     Entry::Done(cell_of(row_of(l, member), token))
@@ -188,7 +190,7 @@ pub fn balance(l: Ledger, member: u32, token: u32) -> Entry
 pub fn credit(l: Ledger, member: u32, token: u32, n: Amount) -> Posting
     ensures { λ r. ⌜ r ≡ creditOf l member token (n .0) ⌝ }
 {
-    if 15 < member {
+    if LAST_MEMBER < member {
         return Posting {
             entry: Entry::Failed(Fault::NoSuchMember),
             ledger: l,
@@ -207,7 +209,7 @@ pub fn credit(l: Ledger, member: u32, token: u32, n: Amount) -> Posting
 pub fn debit(l: Ledger, member: u32, token: u32, n: Amount) -> Posting
     ensures { λ r. ⌜ r ≡ debitOf l member token (n .0) ⌝ }
 {
-    if 15 < member {
+    if LAST_MEMBER < member {
         return Posting {
             entry: Entry::Failed(Fault::NoSuchMember),
             ledger: l,

@@ -15,56 +15,19 @@ use Rattle.fields.specs.declared.Fields.{Fields}
 use Rattle.fields.specs.Grammar.{partsOf, allNumbers, lineNumbers, longestLine}
 use Rattle.fields.specs.Fields.{isFieldByte, fieldBytes, fieldsEnd, withNumbers, fieldsAt}
 use Rattle.fields.proofs.LineLaws.{stops-short, all-field-bytes, line-short, line-long, numbers-in, numbers-many, fields-stop}
-use Rattle.model.specs.declared.call.Call.the-variants.{Deposit, Withdraw, Order, Cancel, Open, Enter, Match, Bid, Settle, Claim}
+use Rattle.model.specs.declared.call.Call.{Call}
+use Rattle.model.specs.Kinds.{kinds}
 use Rattle.lines.specs.declared.call.Reading.{Reading}
 use Rattle.lines.specs.declared.call.Reading.the-variants.{Read, NoCall}
 use Rattle.lines.specs.declared.call.LineAt.{LineAt}
-use Rattle.lines.specs.CallLines.{ofKind, callOf, callOfNumbers, readingOf, lineIn, lineAt}
+use Rattle.lines.specs.CallLines.{readIn, ofKind, callOf, callOfNumbers, readingOf, lineIn, lineAt}
 
 -- ---- the ten kinds
 
-of-kind : (k j : ℕ) (fields : List ℕ) → k ≡ j → ofKind j fields ≡ ofKind k fields
-of-kind k j fields e = ap (λ (x : ℕ). ofKind x fields) (sym e)
-
-pub deposit-is : (k a b c : ℕ) → k ≡ 1 → Read (Deposit a b c) ≡ ofKind k (a ∷ (b ∷ (c ∷ [])))
+-- the call that kind j makes of the fields
+pub of-kind : (k j : ℕ) (fields : List ℕ) (c : Call) → readIn kinds j fields ≡ Read c → k ≡ j → Read c ≡ ofKind k fields
 unfolding ofKind
-deposit-is k a b c h = of-kind k 1 (a ∷ (b ∷ (c ∷ []))) h
-
-pub withdraw-is : (k a b c : ℕ) → k ≡ 2 → Read (Withdraw a b c) ≡ ofKind k (a ∷ (b ∷ (c ∷ [])))
-unfolding ofKind
-withdraw-is k a b c h = of-kind k 2 (a ∷ (b ∷ (c ∷ []))) h
-
-pub order-is : (k a b c d e f : ℕ) → k ≡ 3 → Read (Order a b c d e f) ≡ ofKind k (a ∷ (b ∷ (c ∷ (d ∷ (e ∷ (f ∷ []))))))
-unfolding ofKind
-order-is k a b c d e f h = of-kind k 3 (a ∷ (b ∷ (c ∷ (d ∷ (e ∷ (f ∷ [])))))) h
-
-pub cancel-is : (k a b : ℕ) → k ≡ 4 → Read (Cancel a b) ≡ ofKind k (a ∷ (b ∷ []))
-unfolding ofKind
-cancel-is k a b h = of-kind k 4 (a ∷ (b ∷ [])) h
-
-pub open-is : (k a b c d e : ℕ) → k ≡ 5 → Read (Open a b c d e) ≡ ofKind k (a ∷ (b ∷ (c ∷ (d ∷ (e ∷ [])))))
-unfolding ofKind
-open-is k a b c d e h = of-kind k 5 (a ∷ (b ∷ (c ∷ (d ∷ (e ∷ []))))) h
-
-pub enter-is : (k a : ℕ) → k ≡ 6 → Read (Enter a) ≡ ofKind k (a ∷ [])
-unfolding ofKind
-enter-is k a h = of-kind k 6 (a ∷ []) h
-
-pub match-is : (k a b : ℕ) → k ≡ 7 → Read (Match a b) ≡ ofKind k (a ∷ (b ∷ []))
-unfolding ofKind
-match-is k a b h = of-kind k 7 (a ∷ (b ∷ [])) h
-
-pub bid-is : (k a b c d e f : ℕ) → k ≡ 8 → Read (Bid a b c d e f) ≡ ofKind k (a ∷ (b ∷ (c ∷ (d ∷ (e ∷ (f ∷ []))))))
-unfolding ofKind
-bid-is k a b c d e f h = of-kind k 8 (a ∷ (b ∷ (c ∷ (d ∷ (e ∷ (f ∷ [])))))) h
-
-pub settle-is : (k a b : ℕ) → k ≡ 9 → Read (Settle a b) ≡ ofKind k (a ∷ (b ∷ []))
-unfolding ofKind
-settle-is k a b h = of-kind k 9 (a ∷ (b ∷ [])) h
-
-pub claim-is : (k a : ℕ) → k ≡ 10 → Read (Claim a) ≡ ofKind k (a ∷ [])
-unfolding ofKind
-claim-is k a h = of-kind k 10 (a ∷ []) h
+of-kind k j fields c e h = sym e ∙ ap (λ (x : ℕ). readIn kinds x fields) (sym h)
 
 -- ---- no kind with so many fields
 

@@ -18,11 +18,11 @@ use Rattle.fields.proofs.Scan.{no-comma, low, high, value-more, all-more, numbe
 use Rattle.fields.proofs.LineLaws.{line-short}
 use Rattle.model.specs.declared.call.Call.{Call}
 use Rattle.model.specs.declared.call.Call.the-variants.{Deposit, Withdraw, Order, Cancel, Open, Enter, Match, Bid, Settle, Claim}
+use Rattle.model.specs.Kinds.{Taking, Kind, fromFields, kinds, numbersOfCall}
 use Rattle.lines.specs.declared.call.Reading.the-variants.{Read, NoCall}
-use Rattle.lines.specs.CallLines.{ofKind, callOf, callOfNumbers, readingOf}
-use Rattle.lines.specs.CallText.{numbersOfCall, joinParts, lineOfNumbers, lineOfCall, Small, CallRound, LineRound}
+use Rattle.lines.specs.CallLines.{reading, readIn, ofKind, callOf, callOfNumbers, readingOf}
+use Rattle.lines.specs.CallText.{joinParts, lineOfNumbers, lineOfCall, Small, CallRound, LineRound}
 use Rattle.decimal.proofs.Digits.{digits-bound, lead, lead-none, lead-step, digits-step}
-use Rattle.lines.proofs.CallLaws.{deposit-is, withdraw-is, order-is, cancel-is, open-is, enter-is, match-is, bid-is, settle-is, claim-is, no-fields, no-one, no-two, no-three, no-four, no-five, no-six, no-seven}
 
 and-left : (x y : Bool) → (x && y) ≡ true → x ≡ true
 and-left true y e = refl
@@ -245,75 +245,72 @@ written-read n ns s h = line-short _ (omega (arith, numbers-length n ns s)) ∙ 
 
 -- ---- calls
 
+-- the numbers of a call make it again, and are few
+record Remade (c : Call) : Type 0 where
+  pub number : ℕ
+  pub fields : List ℕ
+  pub is : numbersOfCall c ≡ number ∷ fields
+  pub few : length fields ≤ 6
+  pub call : ofKind number fields ≡ Read c
+
+remade : (c : Call) → Remade c
+unfolding ofKind
+remade (Deposit a b c) = record { number = _; fields = _; is = refl; few = omega arith; call = refl }
+remade (Withdraw a b c) = record { number = _; fields = _; is = refl; few = omega arith; call = refl }
+remade (Order a b c d e f) = record { number = _; fields = _; is = refl; few = omega arith; call = refl }
+remade (Cancel a b) = record { number = _; fields = _; is = refl; few = omega arith; call = refl }
+remade (Open a b c d e) = record { number = _; fields = _; is = refl; few = omega arith; call = refl }
+remade (Enter a) = record { number = _; fields = _; is = refl; few = omega arith; call = refl }
+remade (Match a b) = record { number = _; fields = _; is = refl; few = omega arith; call = refl }
+remade (Bid a b c d e f) = record { number = _; fields = _; is = refl; few = omega arith; call = refl }
+remade (Settle a b) = record { number = _; fields = _; is = refl; few = omega arith; call = refl }
+remade (Claim a) = record { number = _; fields = _; is = refl; few = omega arith; call = refl }
+
 -- every number of the call is at most 4,294,967,295, as in a Call of the code
 pub call-round : CallRound
-unfolding lineOfCall readingOf ofKind
-call-round (Deposit a b c) s = ap callOfNumbers (written-read 1 (a ∷ (b ∷ (c ∷ []))) s (omega arith))
-call-round (Withdraw a b c) s = ap callOfNumbers (written-read 2 (a ∷ (b ∷ (c ∷ []))) s (omega arith))
-call-round (Order a b c d e f) s = ap callOfNumbers (written-read 3 (a ∷ (b ∷ (c ∷ (d ∷ (e ∷ (f ∷ [])))))) s (omega arith))
-call-round (Cancel a b) s = ap callOfNumbers (written-read 4 (a ∷ (b ∷ [])) s (omega arith))
-call-round (Open a b c d e) s = ap callOfNumbers (written-read 5 (a ∷ (b ∷ (c ∷ (d ∷ (e ∷ []))))) s (omega arith))
-call-round (Enter a) s = ap callOfNumbers (written-read 6 (a ∷ []) s (omega arith))
-call-round (Match a b) s = ap callOfNumbers (written-read 7 (a ∷ (b ∷ [])) s (omega arith))
-call-round (Bid a b c d e f) s = ap callOfNumbers (written-read 8 (a ∷ (b ∷ (c ∷ (d ∷ (e ∷ (f ∷ [])))))) s (omega arith))
-call-round (Settle a b) s = ap callOfNumbers (written-read 9 (a ∷ (b ∷ [])) s (omega arith))
-call-round (Claim a) s = ap callOfNumbers (written-read 10 (a ∷ []) s (omega arith))
-
--- the numbers of the call that a line's numbers are
-same-kind : (k j : ℕ) (ns : List ℕ) → eqb k j ≡ true → j ∷ ns ≡ k ∷ ns
-same-kind k j ns e = ap (λ (x : ℕ). x ∷ ns) (sym (eqb-true k j e))
+unfolding lineOfCall readingOf
+call-round c s =
+    let r = remade c in
+    ap (λ (ns : List ℕ). callOfNumbers (lineNumbers (lineOfNumbers ns))) (r .is)
+    ∙ ap callOfNumbers (written-read (r .number) (r .fields) (subst Small (r .is) s) (r .few))
+    ∙ r .call
 
 no-read : (c : Call) → NoCall ≡ Read c → ⊥
 no-read c e = let z : _≡_ {A = ℕ} 0 1 = cc in omega arith
 
-from-read : (ns : List ℕ) (c d : Call) → Read d ≡ Read c → numbersOfCall d ≡ ns → numbersOfCall c ≡ ns
-from-read ns c d e h = let same : c ≡ d = cc in ap numbersOfCall same ∙ h
+-- the fields after these make a call whose numbers are these and the fields
+abbrev Writes : (n : ℕ) → Taking n → List ℕ → Type 0
+Writes zero c ns = numbersOfCall c ≡ ns
+Writes (suc n) f ns = (a : ℕ) → Writes n (f a) (ns ++ (a ∷ []))
+
+fields-written : (n : ℕ) (f : Taking n) (ns : List ℕ) → Writes n f ns → (fields : List ℕ) (c : Call) → reading (fromFields n f fields) ≡ Read c → numbersOfCall c ≡ ns ++ fields
+fields-written zero d ns w [] c e = let same : c ≡ d = cc in ap numbersOfCall same ∙ w ∙ sym (append-nil ns)
+fields-written zero d ns w (a ∷ fields) c e = absurd (no-read c e)
+fields-written (suc n) f ns w [] c e = absurd (no-read c e)
+fields-written (suc n) f ns w (a ∷ fields) c e = fields-written n (f a) (ns ++ (a ∷ [])) (w a) fields c e ∙ append-assoc ns (a ∷ []) fields
+
+-- every kind of the table writes what it reads
+abbrev AllWrite : List Kind → Type 0
+AllWrite [] = Unit {0}
+AllWrite (k ∷ ks) = Writes (k .fields) (k .call) (k .number ∷ []) × AllWrite ks
+
+kinds-write : AllWrite kinds
+kinds-write =
+    (λ a b c. refl, (λ a b c. refl, (λ a b c d e f. refl, (λ a b. refl, (λ a b c d e. refl, (λ a. refl, (λ a b. refl, (λ a b c d e f. refl, (λ a b. refl, (λ a. refl, tt))))))))))
+
+kind-written : (ks : List Kind) → AllWrite ks → (number : ℕ) (fields : List ℕ) (c : Call) → readIn ks number fields ≡ Read c → numbersOfCall c ≡ number ∷ fields
+kind-written [] w number fields c e = absurd (no-read c e)
+kind-written (k ∷ ks) w number fields c e =
+    by-test (eqb number (k .number))
+    (λ t.
+    fields-written (k .fields) (k .call) (k .number ∷ []) (w .0) fields c (rw t at e)
+    ∙ ap (λ (x : ℕ). x ∷ fields) (sym (eqb-true number (k .number) t)))
+    (λ t. kind-written ks (w .1) number fields c (rw t at e))
 
 numbers-call : (ns : List ℕ) (c : Call) → callOf ns ≡ Read c → numbersOfCall c ≡ ns
-numbers-call [] c h = absurd (no-read c h)
-numbers-call (k ∷ []) c h = absurd (no-read c (no-fields k ∙ h))
-numbers-call (k ∷ (a ∷ [])) c h =
-    by-test (eqb k 6)
-    (λ t0. from-read _ c (Enter a) (enter-is k a (eqb-true k 6 t0) ∙ h) (same-kind k 6 (a ∷ []) t0))
-    (λ t0.
-    by-test (eqb k 10)
-    (λ t1. from-read _ c (Claim a) (claim-is k a (eqb-true k 10 t1) ∙ h) (same-kind k 10 (a ∷ []) t1))
-    (λ t1.
-    absurd (no-read c (no-one k a (eqb-false k 6 t0) (eqb-false k 10 t1) ∙ h))))
-numbers-call (k ∷ (a ∷ (b ∷ []))) c h =
-    by-test (eqb k 4)
-    (λ t0. from-read _ c (Cancel a b) (cancel-is k a b (eqb-true k 4 t0) ∙ h) (same-kind k 4 (a ∷ (b ∷ [])) t0))
-    (λ t0.
-    by-test (eqb k 7)
-    (λ t1. from-read _ c (Match a b) (match-is k a b (eqb-true k 7 t1) ∙ h) (same-kind k 7 (a ∷ (b ∷ [])) t1))
-    (λ t1.
-    by-test (eqb k 9)
-    (λ t2. from-read _ c (Settle a b) (settle-is k a b (eqb-true k 9 t2) ∙ h) (same-kind k 9 (a ∷ (b ∷ [])) t2))
-    (λ t2.
-    absurd (no-read c (no-two k a b (eqb-false k 4 t0) (eqb-false k 7 t1) (eqb-false k 9 t2) ∙ h)))))
-numbers-call (k ∷ (a ∷ (b ∷ (d ∷ [])))) c h =
-    by-test (eqb k 1)
-    (λ t0. from-read _ c (Deposit a b d) (deposit-is k a b d (eqb-true k 1 t0) ∙ h) (same-kind k 1 (a ∷ (b ∷ (d ∷ []))) t0))
-    (λ t0.
-    by-test (eqb k 2)
-    (λ t1. from-read _ c (Withdraw a b d) (withdraw-is k a b d (eqb-true k 2 t1) ∙ h) (same-kind k 2 (a ∷ (b ∷ (d ∷ []))) t1))
-    (λ t1.
-    absurd (no-read c (no-three k a b d (eqb-false k 1 t0) (eqb-false k 2 t1) ∙ h))))
-numbers-call (k ∷ (a ∷ (b ∷ (d ∷ (e ∷ []))))) c h = absurd (no-read c (no-four k a b d e ∙ h))
-numbers-call (k ∷ (a ∷ (b ∷ (d ∷ (e ∷ (f ∷ [])))))) c h =
-    by-test (eqb k 5)
-    (λ t0. from-read _ c (Open a b d e f) (open-is k a b d e f (eqb-true k 5 t0) ∙ h) (same-kind k 5 (a ∷ (b ∷ (d ∷ (e ∷ (f ∷ []))))) t0))
-    (λ t0.
-    absurd (no-read c (no-five k a b d e f (eqb-false k 5 t0) ∙ h)))
-numbers-call (k ∷ (a ∷ (b ∷ (d ∷ (e ∷ (f ∷ (g ∷ []))))))) c h =
-    by-test (eqb k 3)
-    (λ t0. from-read _ c (Order a b d e f g) (order-is k a b d e f g (eqb-true k 3 t0) ∙ h) (same-kind k 3 (a ∷ (b ∷ (d ∷ (e ∷ (f ∷ (g ∷ [])))))) t0))
-    (λ t0.
-    by-test (eqb k 8)
-    (λ t1. from-read _ c (Bid a b d e f g) (bid-is k a b d e f g (eqb-true k 8 t1) ∙ h) (same-kind k 8 (a ∷ (b ∷ (d ∷ (e ∷ (f ∷ (g ∷ [])))))) t1))
-    (λ t1.
-    absurd (no-read c (no-six k a b d e f g (eqb-false k 3 t0) (eqb-false k 8 t1) ∙ h))))
-numbers-call (k ∷ (a ∷ (b ∷ (d ∷ (e ∷ (f ∷ (g ∷ (i ∷ ns)))))))) c h = absurd (no-read c (no-seven k a b d e f g i ns ∙ h))
+unfolding ofKind
+numbers-call [] c e = absurd (no-read c e)
+numbers-call (number ∷ fields) c e = kind-written kinds kinds-write number fields c e
 
 pub line-round : LineRound
 unfolding lineOfCall readingOf

@@ -6,68 +6,27 @@ use mathlib.Core.Option.{Option, some, none}
 use lib.ListN.{length, drop}
 use lib.Dec.{eqb}
 use Rattle.model.specs.declared.call.Call.{Call}
-use Rattle.model.specs.declared.call.Call.the-variants.{Deposit, Withdraw, Order, Cancel, Open, Enter, Match, Bid, Settle, Claim}
+use Rattle.model.specs.Kinds.{Kind, fromFields, kinds}
 use Rattle.lines.specs.declared.call.Reading.{Reading}
 use Rattle.lines.specs.declared.call.Reading.the-variants.{Read, NoCall}
 use Rattle.lines.specs.declared.call.LineAt.{LineAt}
 use Rattle.fields.specs.Grammar.{lineNumbers}
 
--- ---- a kind's fields: so many, no more and no fewer
+-- ---- by kind number
 
-abbrev pub oneField : (ℕ → Call) → List ℕ → Reading
-oneField f [] = NoCall
-oneField f (a ∷ []) = Read (f a)
-oneField f (a ∷ (b ∷ ns)) = NoCall
+abbrev pub reading : Option Call → Reading
+reading none = NoCall
+reading (some c) = Read c
 
-abbrev pub twoFields : (ℕ → ℕ → Call) → List ℕ → Reading
-twoFields f [] = NoCall
-twoFields f (a ∷ []) = NoCall
-twoFields f (a ∷ (b ∷ [])) = Read (f a b)
-twoFields f (a ∷ (b ∷ (c ∷ ns))) = NoCall
-
-abbrev pub threeFields : (ℕ → ℕ → ℕ → Call) → List ℕ → Reading
-threeFields f [] = NoCall
-threeFields f (a ∷ []) = NoCall
-threeFields f (a ∷ (b ∷ [])) = NoCall
-threeFields f (a ∷ (b ∷ (c ∷ []))) = Read (f a b c)
-threeFields f (a ∷ (b ∷ (c ∷ (d ∷ ns)))) = NoCall
-
-abbrev pub fiveFields : (ℕ → ℕ → ℕ → ℕ → ℕ → Call) → List ℕ → Reading
-fiveFields f [] = NoCall
-fiveFields f (a ∷ []) = NoCall
-fiveFields f (a ∷ (b ∷ [])) = NoCall
-fiveFields f (a ∷ (b ∷ (c ∷ []))) = NoCall
-fiveFields f (a ∷ (b ∷ (c ∷ (d ∷ [])))) = NoCall
-fiveFields f (a ∷ (b ∷ (c ∷ (d ∷ (e ∷ []))))) = Read (f a b c d e)
-fiveFields f (a ∷ (b ∷ (c ∷ (d ∷ (e ∷ (g ∷ ns)))))) = NoCall
-
-abbrev pub sixFields : (ℕ → ℕ → ℕ → ℕ → ℕ → ℕ → Call) → List ℕ → Reading
-sixFields f [] = NoCall
-sixFields f (a ∷ []) = NoCall
-sixFields f (a ∷ (b ∷ [])) = NoCall
-sixFields f (a ∷ (b ∷ (c ∷ []))) = NoCall
-sixFields f (a ∷ (b ∷ (c ∷ (d ∷ [])))) = NoCall
-sixFields f (a ∷ (b ∷ (c ∷ (d ∷ (e ∷ []))))) = NoCall
-sixFields f (a ∷ (b ∷ (c ∷ (d ∷ (e ∷ (g ∷ [])))))) = Read (f a b c d e g)
-sixFields f (a ∷ (b ∷ (c ∷ (d ∷ (e ∷ (g ∷ (h ∷ ns))))))) = NoCall
-
--- ---- the ten kinds
+-- the call of the kind with this number
+abbrev pub readIn : List Kind → ℕ → List ℕ → Reading
+readIn [] number fields = NoCall
+readIn (k ∷ ks) number fields = cond (eqb number (k .number)) (reading (fromFields (k .fields) (k .call) fields)) (readIn ks number fields)
 
 -- "An empty line, an unknown kind, a wrong number of fields or a value above 4,294,967,295 gets 20": here an unknown kind and a wrong number
 -- of fields do
 unfoldable pub ofKind : ℕ → List ℕ → Reading
-ofKind kind fields =
-    cond (eqb kind 1) (threeFields Deposit fields)
-    (cond (eqb kind 2) (threeFields Withdraw fields)
-    (cond (eqb kind 3) (sixFields Order fields)
-    (cond (eqb kind 4) (twoFields Cancel fields)
-    (cond (eqb kind 5) (fiveFields Open fields)
-    (cond (eqb kind 6) (oneField Enter fields)
-    (cond (eqb kind 7) (twoFields Match fields)
-    (cond (eqb kind 8) (sixFields Bid fields)
-    (cond (eqb kind 9) (twoFields Settle fields)
-    (cond (eqb kind 10) (oneField Claim fields)
-    NoCall)))))))))
+ofKind number fields = readIn kinds number fields
 
 -- the call of a line's numbers; no kind is no call
 abbrev pub callOf : List ℕ → Reading

@@ -5,22 +5,9 @@ use mathlib.Core.List.{List, [], _∷_, _++_, map}
 use Rattle.units.specs.Counts.{largest}
 use Rattle.units.specs.Decimal.{digits}
 use Rattle.model.specs.declared.call.Call.{Call}
+use Rattle.model.specs.Kinds.{numbersOfCall}
 use Rattle.lines.specs.declared.call.Reading.the-variants.{Read}
 use Rattle.lines.specs.CallLines.{readingOf}
-use Rattle.model.specs.declared.call.Call.the-variants.{Deposit, Withdraw, Order, Cancel, Open, Enter, Match, Bid, Settle, Claim}
-
--- a call's kind number, and then its fields
-abbrev pub numbersOfCall : Call → List ℕ
-numbersOfCall (Deposit member token amount) = 1 ∷ (member ∷ (token ∷ (amount ∷ [])))
-numbersOfCall (Withdraw member token amount) = 2 ∷ (member ∷ (token ∷ (amount ∷ [])))
-numbersOfCall (Order ticket member market side limit amount) = 3 ∷ (ticket ∷ (member ∷ (market ∷ (side ∷ (limit ∷ (amount ∷ []))))))
-numbersOfCall (Cancel ticket member) = 4 ∷ (ticket ∷ (member ∷ []))
-numbersOfCall (Open market block reference slack length) = 5 ∷ (market ∷ (block ∷ (reference ∷ (slack ∷ (length ∷ [])))))
-numbersOfCall (Enter ticket) = 6 ∷ (ticket ∷ [])
-numbersOfCall (Match market block) = 7 ∷ (market ∷ (block ∷ []))
-numbersOfCall (Bid market member block side base bound) = 8 ∷ (market ∷ (member ∷ (block ∷ (side ∷ (base ∷ (bound ∷ []))))))
-numbersOfCall (Settle market block) = 9 ∷ (market ∷ (block ∷ []))
-numbersOfCall (Claim ticket) = 10 ∷ (ticket ∷ [])
 
 -- parts with a comma between each two
 abbrev pub joinParts : List (List ℕ) → List ℕ

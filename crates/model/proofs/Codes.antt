@@ -6,7 +6,7 @@ use native.Mathlib.Omega.{arith}
 use lib.ListN.{length}
 use borrow.Author.Tests.{le-ltb, lt-ltb}
 use Rattle.model.specs.Answers.{answerLine, refusalCode}
-use Rattle.model.specs.Calls.{bidOf, cancelOf, claimOf, depositOf, enterOf, matchOf, openOf, orderOf, refuse, settleOf, withdrawOf}
+use Rattle.model.specs.Calls.{refuse}
 use Rattle.model.specs.Codes.{CodesRising, RoomsFirst}
 use Rattle.model.specs.Run.{requestOf, stepOf}
 use Rattle.model.specs.declared.answer.Refusal.{Refusal}
@@ -15,7 +15,7 @@ use Rattle.model.specs.declared.answer.Refusal.the-variants as Refusal
 use Rattle.model.specs.declared.call.Call.the-variants as Call
 
 pub codes-rising : CodesRising
-unfolding stepOf depositOf withdrawOf orderOf cancelOf openOf enterOf matchOf bidOf settleOf claimOf
+unfolding stepOf
 codes-rising x (Call.Deposit m t n) = record { step-is = refl; done-accepts = refl; codes-are = refl; rising = omega arith }
 codes-rising x (Call.Withdraw m t n) = record { step-is = refl; done-accepts = refl; codes-are = refl; rising = omega arith }
 codes-rising x (Call.Order k m mk sd lim n) = record { step-is = refl; done-accepts = refl; codes-are = refl; rising = omega arith }

@@ -12,7 +12,7 @@ use Rattle.model.specs.Calls.{outside}
 use Rattle.model.specs.History.{Current, History, Part, PlacedOrder, RoundLog, put, running, whenSame, withRound}
 use Rattle.model.specs.Sides.{offered, other, wanted}
 use Rattle.model.specs.State.{phase, ticket, withBlock, withPhase, withTicket}
-use Rattle.model.specs.WholeRun.{atWork, currentHolds, enteredIn, partIn, placedIn}
+use Rattle.model.specs.WholeRun.{TicketsAgree, currentHolds, enteredIn, partIn, placedIn, unclaimed}
 use Rattle.model.specs.declared.state.Exchange.{Exchange}
 use Rattle.model.specs.declared.state.Phase.{Phase}
 use Rattle.model.specs.declared.state.TicketState.{TicketState}
@@ -61,44 +61,42 @@ module _ (g : Exchange) (k : ℕ) (s : TicketState) (hk : k < length (g .tickets
       go (yes e) = subst (λ (a : ℕ). Q a (ticket (withTicket g k s) a)) (sym e) (subst (Q k) (sym (ticket-same g k s hk)) here)
       go (no d) = subst (Q j) (sym (ticket-other g k s j d)) (there d)
 
-  pub tickets-set : TicketBounds s → ((j : ℕ) → j < 64 → TicketBounds (ticket g j)) → (j : ℕ) → j < 64 → TicketBounds (ticket (withTicket g k s) j)
-  tickets-set ok all j hj = each-ticket (λ a t. TicketBounds t) ok j (λ d. all j hj)
+  pub bounds-set : TicketBounds s → ((j : ℕ) → j < 64 → TicketBounds (ticket g j)) → (j : ℕ) → j < 64 → TicketBounds (ticket (withTicket g k s) j)
+  bounds-set ok all j hj = each-ticket (λ a t. TicketBounds t) ok j (λ d. all j hj)
 
-  pub orders-set : (f : ℕ → PlacedOrder) (v : PlacedOrder) → v ≡ placedIn s → ((j : ℕ) → j < 64 → f j ≡ placedIn (ticket g j))
-      → (j : ℕ) → j < 64 → put f k v j ≡ placedIn (ticket (withTicket g k s) j)
-  orders-set f v e all j hj =
-      put-each (λ a w. w ≡ placedIn (ticket (withTicket g k s) a)) f k v j
-      (λ q. e ∙ ap placedIn (sym (ticket-same g k s hk)))
-      (λ d. all j hj ∙ ap placedIn (sym (ticket-other g k s j d)))
+  module _ {orders : ℕ → PlacedOrder} {rounds : ℕ → Current} (all : TicketsAgree (ticket g) orders rounds) where
+    -- the ticket's order is in history
+    pub placed-set : (v : PlacedOrder) → placedIn s ≡ v → (j : ℕ) → j < 64 → placedIn (ticket (withTicket g k s) j) ≡ put orders k v j
+    placed-set v e j hj =
+        put-each (λ a w. placedIn (ticket (withTicket g k s) a) ≡ w) orders k v j
+        (λ q. ap placedIn (ticket-same g k s hk) ∙ e)
+        (λ d. ap placedIn (ticket-other g k s j d) ∙ all .tickets-are j hj)
 
-  -- a ticket that stays out of rounds leaves every place as it was
-  pub places-set : (f : ℕ → Current) → ((a : ℕ) → enteredIn s a ≡ enteredIn (ticket g k) a)
-      → ((j : ℕ) → j < 64 → (a : ℕ) → 0 < a → a < 4 → atWork (partIn (f a) j) ≡ enteredIn (ticket g j) a)
-      → (j : ℕ) → j < 64 → (a : ℕ) → 0 < a → a < 4 → atWork (partIn (f a) j) ≡ enteredIn (ticket (withTicket g k s) j) a
-  places-set f e all j hj a pa la =
-      all j hj a pa la ∙ sym (each-ticket (λ i t. enteredIn t a ≡ enteredIn (ticket g i) a) (e a) j (λ d. refl))
+    -- a ticket that stays out of rounds leaves every place as it was
+    pub tickets-set : (v : PlacedOrder) → placedIn s ≡ v → ((a : ℕ) → enteredIn s a ≡ enteredIn (ticket g k) a)
+        → TicketsAgree (ticket (withTicket g k s)) (put orders k v) rounds
+    tickets-set v e out =
+        record {
+          tickets-are = placed-set v e;
+          places-are =
+              λ j hj a pa la. each-ticket (λ i t. enteredIn t a ≡ enteredIn (ticket g i) a) (out a) j (λ d. refl) ∙ all .places-are j hj a pa la;
+        }
 
-  -- a ticket that goes in or out of market mk's round, whose part q says so, changes the places of that ticket in that round
-  pub places-part : (f : ℕ → Current) (mk : ℕ) (b : RoundLog) (q : Part) (c : Current) → f mk ≡ running b → 0 < mk → mk < 4
-      → ((j : ℕ) → j < 64 → atWork (partIn c j) ≡ atWork (put (b .part) k q j))
-      → atWork q ≡ enteredIn s mk → ((a : ℕ) → (a ≡ mk → ⊥) → enteredIn (ticket g k) a ≡ enteredIn s a)
-      → ((j : ℕ) → j < 64 → (a : ℕ) → 0 < a → a < 4 → atWork (partIn (f a) j) ≡ enteredIn (ticket g j) a)
-      → (j : ℕ) → j < 64 → (a : ℕ) → 0 < a → a < 4 → atWork (partIn (put f mk c a) j) ≡ enteredIn (ticket (withTicket g k s) j) a
-  places-part f mk b q c er pm lm same here there all j hj a pa la =
-      put-each (λ i v. atWork (partIn v j) ≡ enteredIn (ticket (withTicket g k s) j) i) f mk c a
-      (λ e. same j hj ∙ at-mk (ℕ-discrete j k))
-      (λ d. all j hj a pa la ∙ sym (each-ticket (λ i t. enteredIn t a ≡ enteredIn (ticket g i) a) (sym (there a d)) j (λ dj. refl)))
-    where
-      at-mk : Dec (j ≡ k) → atWork (put (b .part) k q j) ≡ enteredIn (ticket (withTicket g k s) j) mk
-      at-mk (yes e) =
-          let z : atWork (put (b .part) k q k) ≡ enteredIn (ticket (withTicket g k s) k) mk =
-          ap atWork (put-same (b .part) k q) ∙ here ∙ sym (ap (λ t. enteredIn t mk) (ticket-same g k s hk)) in
-          subst (λ (i : ℕ). atWork (put (b .part) k q i) ≡ enteredIn (ticket (withTicket g k s) i) mk) (sym e) z
-      at-mk (no d) =
-          ap atWork (put-other (b .part) k q j d)
-          ∙ ap (λ (v : Current). atWork (partIn v j)) (sym er)
-          ∙ all j hj mk pm lm
-          ∙ ap (λ t. enteredIn t mk) (sym (ticket-other g k s j d))
+    -- a ticket that goes in or out of market mk's round, whose part q says so, changes the places of that ticket in that round
+    pub places-part : (mk : ℕ) (b : RoundLog) (q : Part) (c : Current) → rounds mk ≡ running b → 0 < mk → mk < 4
+        → ((j : ℕ) → j < 64 → unclaimed (put (b .part) k q j) ≡ unclaimed (partIn c j))
+        → enteredIn s mk ≡ unclaimed q → ((a : ℕ) → (a ≡ mk → ⊥) → enteredIn s a ≡ enteredIn (ticket g k) a)
+        → (j : ℕ) → j < 64 → (a : ℕ) → 0 < a → a < 4 → enteredIn (ticket (withTicket g k s) j) a ≡ unclaimed (partIn (put rounds mk c a) j)
+    places-part mk b q c er pm lm same here there j hj a pa la =
+        put-each (λ i v. enteredIn (ticket (withTicket g k s) j) i ≡ unclaimed (partIn v j)) rounds mk c a
+        (λ e. each-ticket (λ i t. enteredIn t mk ≡ unclaimed (put (b .part) k q i)) (here ∙ sym (ap unclaimed (put-same (b .part) k q))) j (λ d. other-part d) ∙ same j hj)
+        (λ d. each-ticket (λ i t. enteredIn t a ≡ enteredIn (ticket g i) a) (there a d) j (λ dj. refl) ∙ all .places-are j hj a pa la)
+      where
+        other-part : (j ≡ k → ⊥) → enteredIn (ticket g j) mk ≡ unclaimed (put (b .part) k q j)
+        other-part d =
+            all .places-are j hj mk pm lm
+            ∙ ap (λ (v : Current). unclaimed (partIn v j)) er
+            ∙ sym (ap unclaimed (put-other (b .part) k q j d))
 
 -- ---- one market changed
 
@@ -110,32 +108,36 @@ module _ (g : Exchange) (mk : ℕ) (p : Phase) (f : ℕ → Current) (c : Curren
       (λ e. subst (λ (q : Phase). MarketOk q c) (sym (phase-same g mk p pos lm)) ok)
       (λ d. subst (λ (q : Phase). MarketOk q (f a)) (sym (phase-other g mk p a d)) (all a pa la))
 
--- a round whose parts at work stay as they were leaves every place as it was
-pub places-round : (g : Exchange) (mk : ℕ) (f : ℕ → Current) (c : Current) → ((j : ℕ) → j < 64 → atWork (partIn c j) ≡ atWork (partIn (f mk) j))
-    → ((j : ℕ) → j < 64 → (a : ℕ) → 0 < a → a < 4 → atWork (partIn (f a) j) ≡ enteredIn (ticket g j) a)
-    → (j : ℕ) → j < 64 → (a : ℕ) → 0 < a → a < 4 → atWork (partIn (put f mk c a) j) ≡ enteredIn (ticket g j) a
-places-round g mk f c same all j hj a pa la =
-    put-each (λ i v. (0 < i) → (i < 4) → atWork (partIn v j) ≡ enteredIn (ticket g j) i) f mk c a
-    (λ e p l. same j hj ∙ all j hj mk p l)
-    (λ d p l. all j hj a p l)
-    pa la
+-- a round whose unclaimed parts stay as they were leaves every place as it was
+pub tickets-round : {tickets : ℕ → TicketState} {orders : ℕ → PlacedOrder} {rounds : ℕ → Current} → TicketsAgree tickets orders rounds
+    → (mk : ℕ) (c : Current) → ((j : ℕ) → j < 64 → unclaimed (partIn (rounds mk) j) ≡ unclaimed (partIn c j))
+    → TicketsAgree tickets orders (put rounds mk c)
+tickets-round {tickets} {orders} {rounds} all mk c same =
+    record {
+      tickets-are = all .tickets-are;
+      places-are =
+          λ j hj a pa la. put-each (λ i v. (0 < i) → (i < 4) → enteredIn (tickets j) i ≡ unclaimed (partIn v j)) rounds mk c a
+          (λ e p l. all .places-are j hj mk p l ∙ same j hj)
+          (λ d p l. all .places-are j hj a p l)
+          pa la;
+    }
 
--- a market's phase changes at a block, and its round in history with it, so that the same tickets are at work in it and it holds the same
+-- a market's phase changes at a block, and its round in history with it, so that the same tickets wait in it and it holds the same
 pub phase-keeps : (h : Exchange) (y : History) → Inv h y → (mk at : ℕ) → 0 < mk → mk < 4 → (p : Phase) (c : Current) → MarketOk p c
-    → ((j : ℕ) → j < 64 → atWork (partIn c j) ≡ atWork (partIn (y .rounds mk) j)) → ((u : ℕ) → currentHolds mk c u ≡ currentHolds mk (y .rounds mk) u)
+    → ((j : ℕ) → j < 64 → unclaimed (partIn (y .rounds mk) j) ≡ unclaimed (partIn c j)) → ((u : ℕ) → currentHolds mk c u ≡ currentHolds mk (y .rounds mk) u)
     → Inv (withBlock (withPhase h mk p) at) (withRound y mk c)
-phase-keeps h y i mk at pos lt4 p c ok work same =
+phase-keeps h y i mk at pos lt4 p c ok parts same =
     record {
       sized = sized-block (withPhase h mk p) at (sized-phase h mk p (i .sized));
-      tickets = i .tickets;
-      orders = i .orders;
-      places = places-round h mk (y .rounds) c work (i .places);
-      markets = markets-set h mk p (y .rounds) c pos (omega (arith, i .sized .markets)) ok (i .markets);
-      conserved = λ u hu. omega (arith, inRounds-set y mk c pos lt4 u, same u, i .conserved u hu);
-      supplied = i .supplied;
       bounded = i .bounded;
-      accounts = i .accounts;
-      residue-is = i .residue-is;
-      ended-well = i .ended-well;
-      limits = i .limits;
+      ticket-bounds = i .ticket-bounds;
+      markets = markets-set h mk p (y .rounds) c pos (omega (arith, i .sized .markets)) ok (i .markets);
+      books =
+          record {
+            conserved = λ u hu. omega (arith, inRounds-set y mk c pos lt4 u, same u, i .books .conserved u hu);
+            supplied = i .books .supplied;
+            accounts = i .books .accounts;
+          };
+      tickets = tickets-round (i .tickets) mk c parts;
+      past = i .past;
     }

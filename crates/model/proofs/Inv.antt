@@ -4,9 +4,9 @@ use mathlib.Core.Bool.{cond, false, true}
 use mathlib.Core.Path.{_∙_, _≡_, ap, refl, subst}
 use native.Mathlib.Omega.{arith}
 use Rattle.model.specs.Bounds.{TermsBounds, TicketBounds, heldIn}
-use Rattle.model.specs.History.{Current, G, History, P, Part, RoundLog, Stage, T, absent, auctioning, cameIn, changedAt, claimed, collecting, endOrRound, endedAt, given, idle, isWaiting, logOf, running, sameStage, settled, taken, traded, waiting, wentOut}
-use Rattle.model.specs.State.{balance, isAuction, isClosed, isCollect, isEntered, isFree, isPaying, orderIn, phase, residue, roundIn, supply, ticket, totalsOf}
-use Rattle.model.specs.WholeRun.{All, EndedWell, LimitKept, atWork, balances, enteredIn, inRounds, partIn, placedIn, putBy, resting}
+use Rattle.model.specs.History.{Current, G, History, P, Part, RoundLog, Stage, T, OrderTerms, absent, auctioning, cameIn, changedAt, claimed, collecting, endOrRound, endedAt, given, idle, isWaiting, logOf, running, sameStage, settled, taken, traded, waiting, wentOut}
+use Rattle.model.specs.State.{isAuction, isClosed, isCollect, isEntered, isFree, isPaying, orderIn, phase, residue, roundIn, supply, ticket, totalsOf}
+use Rattle.model.specs.WholeRun.{BooksAgree, PastAgrees, TicketsAgree, balances, gotBy, inRounds, paidBy, resting}
 use Rattle.model.specs.declared.state.Exchange.{Exchange}
 use Rattle.model.specs.declared.state.Phase.{Phase}
 use Rattle.model.specs.declared.state.Phase.the-variants.{Auction, Closed, Collect, Paying}
@@ -14,25 +14,24 @@ use Rattle.model.specs.declared.state.Round.{Round}
 use Rattle.model.specs.declared.state.TicketState.{TicketState}
 use Rattle.model.specs.declared.state.TicketState.the-variants.{Entered, Free, Resting}
 use Rattle.pricing.specs.Laws.{Rate}
-use Rattle.pricing.specs.Prices.{offLimit, shareGot, sharePaid}
+use Rattle.pricing.specs.Prices.{offLimit}
 use Rattle.pricing.specs.declared.Side.{Side}
 use Rattle.ticket_set.specs.TicketSet.{bit}
 use Rattle.units.specs.Counts.{largest}
-use Rattle.units.specs.Sums.{sumOver}
 use Rattle.model.proofs.Reading.{Sized}
 
 -- ---- rounds
 
 -- a ticket that waits entered with a limit that the round's bound keeps
-pub record WaitingOk (hi lo : ℕ) (side : Side) (limit o : ℕ) : Type 0 where
-  pub limit-pos : 0 < limit
+pub record WaitingOk (hi lo : ℕ) (terms : OrderTerms) (o : ℕ) : Type 0 where
+  pub limit-pos : 0 < terms .limit
   pub offer-pos : 0 < o
-  pub within : offLimit side limit hi lo ≡ false
+  pub within : offLimit (terms .side) (terms .limit) hi lo ≡ false
 
-pub record ClaimedOk (b : RoundLog) (side : Side) (o s got : ℕ) : Type 0 where
+pub record ClaimedOk (b : RoundLog) (terms : OrderTerms) (o s got : ℕ) : Type 0 where
   pub offer-pos : 0 < o
-  pub s-is : s ≡ sharePaid o (P b side) (T b side)
-  pub got-is : got ≡ shareGot o (G b side) (T b side)
+  pub s-is : s ≡ paidBy b terms o
+  pub got-is : got ≡ gotBy b terms o
 
 -- claims come only once the round is settled
 abbrev pub ClaimsAt : Stage → Type 0
@@ -42,8 +41,8 @@ ClaimsAt settled = Unit {0}
 
 abbrev pub PartOk : Stage → (hi lo : ℕ) → RoundLog → Part → Type 0
 PartOk g hi lo b absent = Unit {0}
-PartOk g hi lo b (waiting member side limit o) = WaitingOk hi lo side limit o
-PartOk g hi lo b (claimed member side limit o s got) = ClaimsAt g × ClaimedOk b side o s got
+PartOk g hi lo b (waiting terms o) = WaitingOk hi lo terms o
+PartOk g hi lo b (claimed terms o s got) = ClaimsAt g × ClaimedOk b terms o s got
 
 pub record RoundOk (g : Stage) (r : Round) (b : RoundLog) : Type 0 where
   pub stage : b .stage ≡ g
@@ -78,19 +77,19 @@ MarketOk (Auction r) (running b) = RoundOk auctioning r b
 MarketOk (Paying r) idle = ⊥
 MarketOk (Paying r) (running b) = RoundOk settled r b
 
+-- what holds of state and history after every call: what the statement says of books, tickets and the past, and what keeps it so
 pub record Inv (h : Exchange) (y : History) : Type 0 where
   pub sized : Sized h
-  pub tickets : (k : ℕ) → k < 64 → TicketBounds (ticket h k)
-  pub orders : (k : ℕ) → k < 64 → y .orders k ≡ placedIn (ticket h k)
-  pub places : (k : ℕ) → k < 64 → (n : ℕ) → 0 < n → n < 4 → atWork (partIn (y .rounds n) k) ≡ enteredIn (ticket h k) n
-  pub markets : (n : ℕ) → 0 < n → n < 4 → MarketOk (phase h n) (y .rounds n)
-  pub conserved : (t : ℕ) → t < 4 → balances h t + resting h t + inRounds y t + residue h t ≡ supply h t
-  pub supplied : (t : ℕ) → t < 4 → supply h t + y .withdrawn t ≡ y .deposited t
   pub bounded : (t : ℕ) → t < 4 → supply h t ≤ largest
-  pub accounts : (m : ℕ) → m < 16 → (t : ℕ) → t < 4 → balance h m t + y .debits m t ≡ y .credits m t
-  pub residue-is : (t : ℕ) → t < 4 → residue h t ≡ sumOver (putBy t) (y .ended)
-  pub ended-well : All EndedWell (y .ended)
-  pub limits : All LimitKept (y .payouts)
+  pub ticket-bounds : (k : ℕ) → k < 64 → TicketBounds (ticket h k)
+  pub markets : (n : ℕ) → 0 < n → n < 4 → MarketOk (phase h n) (y .rounds n)
+  pub books : BooksAgree h y
+  pub tickets : TicketsAgree (ticket h) (y .orders) (y .rounds)
+  pub past : PastAgrees (residue h) (y .ended) (y .payouts)
+
+-- all amounts are the supply
+pub in-supply : {h : Exchange} {y : History} → Inv h y → (t : ℕ) → t < 4 → balances h t + resting h t + inRounds y t + residue h t ≡ supply h t
+in-supply i t l = omega (arith, i .books .conserved t l, i .books .supplied t l)
 
 -- ---- which case a ticket, a phase or a market's round is
 
@@ -161,5 +160,5 @@ ended-at g f y n c b e s =
     ap (endedAt g f y n) e ∙ ap (λ v. cond (sameStage g v) (endOrRound y n (f b)) y) s ∙ stage-self g (endOrRound y n (f b)) y
 
 -- a claimed part was paid its full share
-pub claimed-ok : (g : Stage) (hi lo : ℕ) (b : RoundLog) (q : Part) → PartOk g hi lo b q → (m : ℕ) (x : Side) (l o s got : ℕ) → q ≡ claimed m x l o s got → ClaimedOk b x o s got
-claimed-ok g hi lo b q k m x l o s got e = subst (PartOk g hi lo b) e k .1
+pub claimed-ok : (g : Stage) (hi lo : ℕ) (b : RoundLog) (q : Part) → PartOk g hi lo b q → (terms : OrderTerms) (o s got : ℕ) → q ≡ claimed terms o s got → ClaimedOk b terms o s got
+claimed-ok g hi lo b q k terms o s got e = subst (PartOk g hi lo b) e k .1

@@ -7,10 +7,10 @@ use lib.Dec.{eqb, ltb}
 use borrow.Author.Tests.{eqb-false, ltb-false, not-false}
 use Rattle.model.specs.Bounds.{heldIn}
 use Rattle.model.specs.Calls.{bidDone, bidQuote, bidRound, bidTests, notAvailable}
-use Rattle.model.specs.History.{Current, G, History, P, RoundLog, T, addedTo, auctioning, cameIn, holds, isWaiting, logOf, put, running, wentOut, whenSame, withAccepted, withBid, withCredit, withDebit, withEvent, withRound}
+use Rattle.model.specs.History.{Current, G, History, P, RoundLog, T, addedTo, auctioning, cameIn, holds, logOf, put, running, wentOut, whenSame, withAccepted, withBid, withCredit, withDebit, withEvent, withRound}
 use Rattle.model.specs.Sides.{gives, offered, other, sideOf, takes, wanted}
-use Rattle.model.specs.State.{balance, credit, debit, isAuction, isClosed, phase, residue, roundIn, supply, totalsOf, withBlock, withPhase}
-use Rattle.model.specs.WholeRun.{atWork, balances, currentHolds, holdsOf, partIn, resting, roundsTotal}
+use Rattle.model.specs.State.{balance, credit, debit, isAuction, isClosed, phase, residue, roundIn, totalsOf, withBlock, withPhase}
+use Rattle.model.specs.WholeRun.{balances, currentHolds, holdsOf, partIn, resting, roundsTotal, unclaimed}
 use Rattle.model.specs.declared.state.Exchange.{Exchange}
 use Rattle.model.specs.declared.state.Phase.the-variants.{Auction}
 use Rattle.model.specs.declared.state.Round.{Round}
@@ -21,7 +21,7 @@ use Rattle.pricing.specs.declared.Side.the-variants.{Buy, Sell}
 use Rattle.units.specs.Counts.{largest}
 use Rattle.units.specs.Sums.{only}
 use Rattle.ledger.proofs.Laws.{credited-total, debited-total}
-use Rattle.model.proofs.Frames.{inside, markets-set, offered-lt, offered-split, places-round, wanted-lt, wanted-split}
+use Rattle.model.proofs.Frames.{inside, markets-set, offered-lt, offered-split, tickets-round, wanted-lt, wanted-split}
 use Rattle.model.proofs.Inv.{Inv, MarketOk, PartOk, RoundOk, auction-is, changed-at, running-is}
 use Rattle.model.proofs.Reading.{Sized, account-credit, account-debit, inRounds-set, put-same, sized-block, sized-credit, sized-debit, sized-phase}
 use Rattle.model.proofs.Rounds.{held-within, part-early, went-zero}
@@ -65,45 +65,28 @@ bid-ok Sell r b n k ok hn hk e =
 -- what a bid changes, by sides: x is traded on, z is looked at
 module _ (b : RoundLog) (n q : ℕ) where
   bid-P : (x z : Side) → P (withBid b x n q) z ≡ P b z + whenSame z x (takes x n q)
-  unfolding P
   bid-P Buy Buy = omega arith
   bid-P Buy Sell = omega arith
   bid-P Sell Buy = omega arith
   bid-P Sell Sell = omega arith
 
   bid-G : (x z : Side) → G (withBid b x n q) z ≡ G b z + whenSame z x (gives x n q)
-  unfolding G
   bid-G Buy Buy = omega arith
   bid-G Buy Sell = omega arith
   bid-G Sell Buy = omega arith
   bid-G Sell Sell = omega arith
 
-  bid-T : (x z : Side) → T (withBid b x n q) z ≡ T b z
-  unfolding T
-  bid-T Buy z = refl
-  bid-T Sell z = refl
-
   bid-came : (x z : Side) → cameIn (withBid b x n q) z ≡ cameIn b z + whenSame z (other x) (gives x n q)
-  unfolding cameIn
-  bid-came Buy Buy = omega (arith, bid-T Buy Buy)
-  bid-came Buy Sell = omega (arith, bid-T Buy Sell)
-  bid-came Sell Buy = omega (arith, bid-T Sell Buy)
-  bid-came Sell Sell = omega (arith, bid-T Sell Sell)
+  bid-came Buy Buy = omega arith
+  bid-came Buy Sell = omega arith
+  bid-came Sell Buy = omega arith
+  bid-came Sell Sell = omega arith
 
   bid-went : (x z : Side) → wentOut (withBid b x n q) z ≡ wentOut b z + whenSame z x (takes x n q)
-  unfolding wentOut
   bid-went Buy Buy = omega arith
   bid-went Buy Sell = omega arith
   bid-went Sell Buy = omega arith
   bid-went Sell Sell = omega arith
-
-  bid-part : (x : Side) (k : ℕ) → withBid b x n q .part k ≡ b .part k
-  bid-part Buy k = refl
-  bid-part Sell k = refl
-
-  bid-stage : (x : Side) → withBid b x n q .stage ≡ b .stage
-  bid-stage Buy = refl
-  bid-stage Sell = refl
 
 module _ (r : Round) (n q : ℕ) where
   bid-total : (x z : Side) → totalsOf (bidRound r x n q) z .total .0 ≡ totalsOf r z .total .0
@@ -172,7 +155,6 @@ module _ (h : Exchange) (y : History) (i : Inv h y) (mk m at n q : ℕ) (x : Sid
 
   -- the round has what the maker takes
   room : (z : Side) → wentOut b z + whenSame z x (takes x n q) ≤ cameIn b z
-  unfolding cameIn P
   room z =
       same-le z x (takes x n q) (wentOut b z) (cameIn b z)
       (λ e. subst (λ (w : Side). wentOut b w + takes x n q ≤ cameIn b w) (sym e) (omega (arith, ok .fits, went-zero auctioning (λ e. e) (r .hi .0) (r .lo .0) b (rOk .parts) x)))
@@ -183,13 +165,12 @@ module _ (h : Exchange) (y : History) (i : Inv h y) (mk m at n q : ℕ) (x : Sid
 
   within1 : (z : Side) → P b1 z ≤ T b1 z
   within1 z =
-      rw (bid-P b n q x z, bid-T b n q x z)
+      rw (bid-P b n q x z)
       (same-le z x (takes x n q) (P b z) (T b z) (λ e. subst (λ (w : Side). P b w + takes x n q ≤ T b w) (sym e) (ok .fits)) (rOk .within z))
 
   empty1 : (z : Side) → T b1 z ≡ 0 → G b1 z ≡ 0
   empty1 z e =
-      let t : T b z ≡ 0 = sym (bid-T b n q x z) ∙ e in
-      bid-G b n q x z ∙ bid-empty x z r b n q ok t (rOk .empty z t)
+      bid-G b n q x z ∙ bid-empty x z r b n q ok e (rOk .empty z e)
 
   rate1 : (z : Side) → Rate z (r .hi .0) (r .lo .0) (P b1 z) (G b1 z)
   rate1 z =
@@ -199,7 +180,6 @@ module _ (h : Exchange) (y : History) (i : Inv h y) (mk m at n q : ℕ) (x : Sid
   -- ---- amounts
 
   holds1 : (z : Side) → holds b1 z + whenSame z x (takes x n q) ≡ holds b z + whenSame z (other x) (gives x n q)
-  unfolding holds
   holds1 z = omega (arith, came1 z, went1 z, room z, rOk .held z)
 
   holdsOf1 : (u : ℕ) → holdsOf mk b1 u + only (offered x mk) (takes x n q) u ≡ holdsOf mk b u + only (wanted x mk) (gives x n q) u
@@ -232,7 +212,7 @@ module _ (h : Exchange) (y : History) (i : Inv h y) (mk m at n q : ℕ) (x : Sid
   sized2 : Sized h2
   sized2 = sized-credit h1 m (offered x mk) (takes x n q) sized1
 
-  conserved1 : (u : ℕ) → u < 4 → balances h2 u + resting h2 u + roundsTotal (put (y .rounds) mk (running b1)) u + residue h2 u ≡ supply h2 u
+  conserved1 : (u : ℕ) → u < 4 → balances h2 u + resting h2 u + roundsTotal (put (y .rounds) mk (running b1)) u + residue h2 u + y .withdrawn u ≡ y .deposited u
   conserved1 u hu =
       omega (
         arith,
@@ -241,17 +221,15 @@ module _ (h : Exchange) (y : History) (i : Inv h y) (mk m at n q : ℕ) (x : Sid
         inRounds-set y mk (running b1) pos lt4 u,
         holdsOf1 u,
         ap (λ (v : Current). currentHolds mk v u) er,
-        i .conserved u hu,
+        i .books .conserved u hu,
       )
 
   parts1 : (k : ℕ) → k < 64 → PartOk auctioning (r .hi .0) (r .lo .0) b1 (b1 .part k)
   parts1 k l =
-      subst (PartOk auctioning (r .hi .0) (r .lo .0) b1) (sym (bid-part b n q x k))
-      (part-early auctioning (λ e. e) (r .hi .0) (r .lo .0) b auctioning b1 (b .part k) (rOk .parts k l))
+      part-early auctioning (λ e. e) (r .hi .0) (r .lo .0) b auctioning b1 (b .part k) (rOk .parts k l)
 
   -- what a side got is still held for it
   held-got : (z : Side) → G b1 z ≤ holds b1 (other z)
-  unfolding G P cameIn holds
   held-got Buy = omega (arith, held1 Sell, went-zero auctioning (λ e. e) (r .hi .0) (r .lo .0) b1 parts1 Sell, within1 Sell)
   held-got Sell = omega (arith, held1 Buy, went-zero auctioning (λ e. e) (r .hi .0) (r .lo .0) b1 parts1 Buy, within1 Buy)
 
@@ -262,25 +240,26 @@ module _ (h : Exchange) (y : History) (i : Inv h y) (mk m at n q : ℕ) (x : Sid
         held-got z,
         held-within mk (put (y .rounds) mk (running b1)) b1 (other z) pos lt4 (put-same (y .rounds) mk (running b1)),
         conserved1 (offered (other z) mk) (offered-lt (other z) mk lt4),
+        i .books .supplied (offered (other z) mk) (offered-lt (other z) mk lt4),
         i .bounded (offered (other z) mk) (offered-lt (other z) mk lt4),
       )
 
   round1 : RoundOk auctioning r1 b1
   round1 =
       record {
-        stage = bid-stage b n q x ∙ rOk .stage;
-        total = λ z. bid-total r n q x z ∙ rOk .total z ∙ sym (bid-T b n q x z);
+        stage = rOk .stage;
+        total = λ z. bid-total r n q x z ∙ rOk .total z;
         paid = λ z. omega (arith, bid-paid r n q x z, rOk .paid z, bid-P b n q x z);
         got = λ z. omega (arith, bid-got r n q x z, rOk .got z, bid-G b n q x z);
         held = held1;
-        marks = λ k l. rOk .marks k l ∙ ap isWaiting (sym (bid-part b n q x k));
+        marks = rOk .marks;
         marks-small = rOk .marks-small;
         within = within1;
         empty = empty1;
         rate = rate1;
         parts = parts1;
         terms = rOk .terms;
-        small-total = λ z. omega (arith, bid-T b n q x z, rOk .small-total z);
+        small-total = rOk .small-total;
         small-got = small1;
       }
 
@@ -291,25 +270,20 @@ module _ (h : Exchange) (y : History) (i : Inv h y) (mk m at n q : ℕ) (x : Sid
   accounts2 : (j : ℕ) → j < 16 → (u : ℕ) → u < 4 → balance h2 j u + y2 (running b1) .debits j u ≡ y2 (running b1) .credits j u
   accounts2 =
       account-credit (h1 .ledger) (y .credits) (addedTo (y .debits) m (wanted x mk) (gives x n q)) (sized1 .shaped) m (offered x mk) (takes x n q) hm (offered-lt x mk lt4)
-      (account-debit (h .ledger) (y .credits) (y .debits) (i .sized .shaped) m (wanted x mk) (gives x n q) hm (wanted-lt x mk lt4) (i .accounts) funds)
+      (account-debit (h .ledger) (y .credits) (y .debits) (i .sized .shaped) m (wanted x mk) (gives x n q) hm (wanted-lt x mk lt4) (i .books .accounts) funds)
 
   bids : Inv (withBlock (withPhase h2 mk (Auction r1)) at) (y2 (running b1))
   bids =
       record {
         sized = sized-block (withPhase h2 mk (Auction r1)) at (sized-phase h2 mk (Auction r1) sized2);
-        tickets = i .tickets;
-        orders = i .orders;
-        places =
-            places-round h mk (y .rounds) (running b1)
-            (λ j hj. ap atWork (bid-part b n q x j) ∙ sym (ap (λ (v : Current). atWork (partIn v j)) er)) (i .places);
-        markets = markets-set h2 mk (Auction r1) (y .rounds) (running b1) pos (omega (arith, i .sized .markets)) round1 (i .markets);
-        conserved = conserved1;
-        supplied = i .supplied;
         bounded = i .bounded;
-        accounts = accounts2;
-        residue-is = i .residue-is;
-        ended-well = i .ended-well;
-        limits = i .limits;
+        ticket-bounds = i .ticket-bounds;
+        markets = markets-set h2 mk (Auction r1) (y .rounds) (running b1) pos (omega (arith, i .sized .markets)) round1 (i .markets);
+        books = record { conserved = conserved1; supplied = i .books .supplied; accounts = accounts2 };
+        tickets =
+            tickets-round (i .tickets) mk (running b1)
+            (λ j hj. ap (λ (v : Current). unclaimed (partIn v j)) er);
+        past = i .past;
       }
 
 pub bid-keeps : (h : Exchange) (y : History) (mk m at sd n bound : ℕ) → Inv h y → Passed (bidTests h mk m at sd n bound)

@@ -9,10 +9,10 @@ use lib.ListN.{length}
 use borrow.Author.Tests.{eq-eqb, eqb-true, ltb-false, ne-eqb, not-false}
 use Rattle.model.specs.Bounds.{OrderBounds, TicketBounds, heldIn}
 use Rattle.model.specs.Calls.{claimDone, claimTests, claimWith, claimedRound, payingOrClosed}
-use Rattle.model.specs.History.{Current, G, History, P, Part, PlacedOrder, RoundLog, T, absent, cameIn, claimed, claimedAs, endOrRound, holds, idle, isTicket, isWaiting, logOf, movedOut, offerOn, placedOr, put, running, settled, ticketCount, waiting, waitingCount, wentOut, whenSame, withAccepted, withClaim, withCredit, withEnd, withEvent, withOrder, withPart, withPayout, withRound}
-use Rattle.model.specs.Sides.{offered, wanted}
+use Rattle.model.specs.History.{Current, G, History, P, Part, PlacedOrder, RoundLog, T, OrderTerms, absent, cameIn, claimed, claimedAs, endOrRound, holds, idle, isTicket, isWaiting, logOf, movedOut, offerOn, placedOr, put, running, settled, ticketCount, waiting, waitingCount, wentOut, whenSame, withAccepted, withClaim, withCredit, withEnd, withEvent, withOrder, withPart, withPayout, withRound}
+use Rattle.model.specs.Sides.{offered, other, wanted}
 use Rattle.model.specs.State.{balance, credit, isClosed, isEntered, isPaying, orderIn, phase, residue, restingOr, roundIn, ticket, toResidue, totalsOf, withPhase, withTicket}
-use Rattle.model.specs.WholeRun.{All, LimitKept, PaysOut, atWork, balances, cons, currentHolds, enteredIn, holdsOf, inRounds, partIn, placedIn, putBy, resting, restingIn, roundsTotal}
+use Rattle.model.specs.WholeRun.{All, LimitKept, PaysOut, TicketsAgree, balances, cons, currentHolds, enteredIn, gotBy, holdsOf, inRounds, paidBy, partIn, placedIn, putBy, resting, restingIn, roundsTotal, termsOf, unclaimed}
 use Rattle.model.specs.declared.state.Exchange.{Exchange}
 use Rattle.model.specs.declared.state.Order.{Order}
 use Rattle.model.specs.declared.state.Phase.the-variants.{Closed, Paying}
@@ -25,10 +25,10 @@ use Rattle.pricing.specs.declared.Side.the-variants.{Buy, Sell}
 use Rattle.ticket_set.specs.TicketSet.{bit, countOf, removed}
 use Rattle.units.specs.Sums.{only, sumOver}
 use Rattle.ledger.proofs.Laws.{credited-balance, credited-other, credited-total}
-use Rattle.model.proofs.Frames.{markets-set, orders-set, places-part, tickets-set, wanted-lt}
+use Rattle.model.proofs.Frames.{bounds-set, markets-set, placed-set, places-part, wanted-lt}
 use Rattle.model.proofs.Inv.{ClaimedOk, Inv, MarketOk, PartOk, RoundOk, WaitingOk, ended-at, entered-is, paying-is, running-is}
 use Rattle.model.proofs.Reading.{Sized, account-credit, fewer-of, inRounds-set, put-each, put-same, residue-plus, resting-set, sized-credit, sized-phase, sized-residue, sized-ticket, ticket-other, ticket-same}
-use Rattle.model.proofs.Rounds.{G-part, P-part, T-part, cameIn-part, covers, leaves, marks-count, marks-part, none-waiting, over-work, round-pays, wentOut-part}
+use Rattle.model.proofs.Rounds.{T-part, cameIn-part, covers, leaves, marks-count, marks-part, none-waiting, not-unclaimed, round-pays, wentOut-part}
 use Rattle.pricing.proofs.Limits.{limit-kept}
 use Rattle.pricing.proofs.Shares.{paid-le-offer}
 use Rattle.ticket_set.proofs.Bits.{bit-removed-other, bit-removed-same, removed-lt}
@@ -38,10 +38,10 @@ use Rattle.model.specs.declared.call.Call.the-variants as Call
 
 -- ---- small facts, each by cases
 
-waiting-is : (q : Part) (m : ℕ) (x : Side) (l n : ℕ) → atWork q ≡ waiting m x l n → q ≡ waiting m x l n
-waiting-is absent m x l n e = cc
-waiting-is (waiting m′ x′ l′ n′) m x l n e = e
-waiting-is (claimed m′ x′ l′ n′ s g) m x l n e = cc
+waiting-is : (q : Part) (terms : OrderTerms) (n : ℕ) → unclaimed q ≡ waiting terms n → q ≡ waiting terms n
+waiting-is absent terms n e = cc
+waiting-is (waiting terms′ n′) terms n e = e
+waiting-is (claimed terms′ n′ s g) terms n e = cc
 
 whenSame-self : (x : Side) (n : ℕ) → whenSame x x n ≡ n
 whenSame-self Buy n = refl
@@ -51,7 +51,7 @@ says-resting : (o : Order) (rest n : ℕ) → enteredIn (restingOr o rest) n ≡
 says-resting o zero n = refl
 says-resting o (suc rest) n = refl
 
-placed-resting : (o : Order) (rest : ℕ) → placedOr (o .member) (o .market) (o .side) (o .limit .0) rest ≡ placedIn (restingOr o rest)
+placed-resting : (o : Order) (rest : ℕ) → placedIn (restingOr o rest) ≡ placedOr (termsOf o) (o .market) rest
 placed-resting o zero = refl
 placed-resting o (suc rest) = refl
 
@@ -65,20 +65,17 @@ resting-rest o zero u = sym (only-zero (offered (o .side) (o .market)) u)
 resting-rest o (suc rest) u = refl
 
 -- what a claim moves out of the two tokens is its refund and its payment
-moved-split : (side : Side) (mk m limit n s got u : ℕ)
-    → only 0 (movedOut Buy (claimed m side limit n s got)) u + only mk (movedOut Sell (claimed m side limit n s got)) u
-    ≡ only (offered side mk) (n - s) u + only (wanted side mk) got u
-moved-split Buy mk m limit n s got u =
-    omega (arith, only-add 0 (n - s) 0 u, only-zero 0 u, only-add mk 0 got u, only-zero mk u)
-moved-split Sell mk m limit n s got u =
-    omega (arith, only-add 0 0 got u, only-zero 0 u, only-add mk (n - s) 0 u, only-zero mk u)
+moved-split : (side : Side) (mk a b u : ℕ)
+    → only 0 (whenSame Buy side a + whenSame Sell side b) u + only mk (whenSame Sell side a + whenSame Buy side b) u
+    ≡ only (offered side mk) a u + only (wanted side mk) b u
+moved-split Buy mk a b u = omega (arith, only-add 0 a 0 u, only-zero 0 u, only-add mk 0 b u, only-zero mk u)
+moved-split Sell mk a b u = omega (arith, only-add 0 0 b u, only-zero 0 u, only-add mk a 0 u, only-zero mk u)
 
-held-claimed : (r : Round) (k : ℕ) (side x : Side) (m limit n s got : ℕ)
-    → heldIn (claimedRound r k side (n - s) got) x ≡ heldIn r x - movedOut x (claimed m side limit n s got)
-held-claimed r k Buy Buy m limit n s got = omega arith
-held-claimed r k Buy Sell m limit n s got = omega arith
-held-claimed r k Sell Buy m limit n s got = omega arith
-held-claimed r k Sell Sell m limit n s got = omega arith
+held-claimed : (r : Round) (k : ℕ) (side x : Side) (a b : ℕ) → heldIn (claimedRound r k side a b) x ≡ heldIn r x - (whenSame x side a + whenSame (other x) side b)
+held-claimed r k Buy Buy a b = omega arith
+held-claimed r k Buy Sell a b = omega arith
+held-claimed r k Sell Buy a b = omega arith
+held-claimed r k Sell Sell a b = omega arith
 
 -- ---- the claim of ticket k with order o, in round r of history b
 
@@ -90,8 +87,8 @@ module _ (h : Exchange) (y : History) (i : Inv h y) (k : ℕ) (hk : k < 64) (o :
   abbrev side : Side
   side = o .side
 
-  abbrev lim : ℕ
-  lim = o .limit .0
+  abbrev terms : OrderTerms
+  terms = termsOf o
 
   abbrev n : ℕ
   n = o .offer .0
@@ -106,7 +103,7 @@ module _ (h : Exchange) (y : History) (i : Inv h y) (k : ℕ) (hk : k < 64) (o :
   rest = n - s
 
   abbrev q1 : Part
-  q1 = claimed (o .member) side lim n s got
+  q1 = claimed terms n s got
 
   abbrev b1 : RoundLog
   b1 = withPart b k q1
@@ -115,31 +112,30 @@ module _ (h : Exchange) (y : History) (i : Inv h y) (k : ℕ) (hk : k < 64) (o :
   r1 = claimedRound r k side rest got
 
   pub oOk : OrderBounds o
-  oOk = subst TicketBounds et (i .tickets k hk)
+  oOk = subst TicketBounds et (i .ticket-bounds k hk)
 
   pub rOk : RoundOk settled r b
   rOk = subst₂ MarketOk ep er (i .markets mk (oOk .market-low) (oOk .market-high))
 
   -- its part waits in the round
-  pub part-is : b .part k ≡ waiting (o .member) side lim n
+  pub part-is : b .part k ≡ waiting terms n
   part-is =
-      waiting-is (b .part k) (o .member) side lim n
-      (ap (λ (c : Current). atWork (partIn c k)) (sym er)
-      ∙ i .places k hk mk (oOk .market-low) (oOk .market-high)
+      waiting-is (b .part k) terms n
+      (ap (λ (c : Current). unclaimed (partIn c k)) (sym er)
+      ∙ sym (i .tickets .places-are k hk mk (oOk .market-low) (oOk .market-high))
       ∙ ap (λ (t : TicketState). enteredIn t mk) et
-      ∙ ap (λ (q : Bool). cond q (waiting (o .member) side lim n) absent) (eq-eqb mk mk refl))
+      ∙ ap (λ (q : Bool). cond q (waiting terms n) absent) (eq-eqb mk mk refl))
 
-  waits : WaitingOk (r .hi .0) (r .lo .0) side lim n
+  waits : WaitingOk (r .hi .0) (r .lo .0) terms n
   waits = subst (PartOk settled (r .hi .0) (r .lo .0) b) part-is (rOk .parts k hk)
 
-  s-is : s ≡ sharePaid n (P b side) (T b side)
+  s-is : s ≡ paidBy b terms n
   s-is = ap₂ (λ p t. sharePaid n p t) (rOk .paid side) (rOk .total side)
 
-  got-is : got ≡ shareGot n (G b side) (T b side)
+  got-is : got ≡ gotBy b terms n
   got-is = ap₂ (λ p t. shareGot n p t) (rOk .got side) (rOk .total side)
 
   pub offer-le : n ≤ T b side
-  unfolding T
   offer-le =
       let e : offerOn side (b .part k) ≡ n = ap (offerOn side) part-is ∙ whenSame-self side n in
       omega (arith, term-le 64 k (λ j. offerOn side (b .part j)) hk)
@@ -153,31 +149,26 @@ module _ (h : Exchange) (y : History) (i : Inv h y) (k : ℕ) (hk : k < 64) (o :
   T1 : (x : Side) → T b1 x ≡ T b x
   T1 x = omega (arith, T-part b k q1 hk x, ap (offerOn x) part-is)
 
-  P1 : (x : Side) → P b1 x ≡ P b x
-  P1 x = P-part b k q1 hk x
-
-  G1 : (x : Side) → G b1 x ≡ G b x
-  G1 x = G-part b k q1 hk x
-
-  claimed-move : (x : Side) (a c d : ℕ) → ClaimedOk b x a c d → ClaimedOk b1 x a c d
-  claimed-move x a c d w = record { offer-pos = w .offer-pos; s-is = rw (P1 x, T1 x) (w .s-is); got-is = rw (G1 x, T1 x) (w .got-is) }
+  claimed-move : (t : OrderTerms) (a c d : ℕ) → ClaimedOk b t a c d → ClaimedOk b1 t a c d
+  claimed-move t a c d w =
+      record { offer-pos = w .offer-pos; s-is = rw (T1 (t .side)) (w .s-is); got-is = rw (T1 (t .side)) (w .got-is) }
 
   part-move : (q : Part) → PartOk settled (r .hi .0) (r .lo .0) b q → PartOk settled (r .hi .0) (r .lo .0) b1 q
   part-move absent w = tt
-  part-move (waiting m x l a) w = w
-  part-move (claimed m x l a c d) w = (tt, claimed-move x a c d (w .1))
+  part-move (waiting t a) w = w
+  part-move (claimed t a c d) w = (tt, claimed-move t a c d (w .1))
 
   parts1 : (j : ℕ) → j < 64 → PartOk settled (r .hi .0) (r .lo .0) b1 (b1 .part j)
   parts1 j hj =
       put-each (λ a q. PartOk settled (r .hi .0) (r .lo .0) b1 q) (b .part) k q1 j
-      (λ e. (tt, claimed-move side n s got (record { offer-pos = oOk .offer; s-is = s-is; got-is = got-is })))
+      (λ e. (tt, claimed-move terms n s got (record { offer-pos = oOk .offer; s-is = s-is; got-is = got-is })))
       (λ d. part-move (b .part j) (rOk .parts j hj))
 
   within1 : (x : Side) → P b1 x ≤ T b1 x
-  within1 x = omega (arith, P1 x, T1 x, rOk .within x)
+  within1 x = omega (arith, T1 x, rOk .within x)
 
   empty1 : (x : Side) → T b1 x ≡ 0 → G b1 x ≡ 0
-  empty1 x e = G1 x ∙ rOk .empty x (sym (T1 x) ∙ e)
+  empty1 x e = rOk .empty x (sym (T1 x) ∙ e)
 
   came1 : (x : Side) → cameIn b1 x ≡ cameIn b x
   came1 x = omega (arith, cameIn-part b k q1 hk x, ap (offerOn x) part-is)
@@ -190,7 +181,7 @@ module _ (h : Exchange) (y : History) (i : Inv h y) (k : ℕ) (hk : k < 64) (o :
   moved-le x = omega (arith, came1 x, went1 x, rOk .held x, covers (r .hi .0) (r .lo .0) b1 parts1 within1 empty1 x)
 
   held1 : (x : Side) → heldIn r1 x + wentOut b1 x ≡ cameIn b1 x
-  held1 x = omega (arith, came1 x, went1 x, rOk .held x, moved-le x, held-claimed r k side x (o .member) lim n s got)
+  held1 x = omega (arith, came1 x, went1 x, rOk .held x, moved-le x, held-claimed r k side x rest got)
 
   marks1 : (j : ℕ) → j < 64 → bit (r1 .tickets) j ≡ isWaiting (b1 .part j)
   marks1 = marks-part (r .tickets) (removed (r .tickets) k) k b q1 (bit-removed-same (r .tickets) k) (bit-removed-other (r .tickets) k) (rOk .marks)
@@ -207,11 +198,11 @@ module _ (h : Exchange) (y : History) (i : Inv h y) (k : ℕ) (hk : k < 64) (o :
         marks-small = removed-lt (r .tickets) k (rOk .marks-small);
         within = within1;
         empty = empty1;
-        rate = λ x. rw (P1 x, G1 x) (rOk .rate x);
+        rate = rOk .rate;
         parts = parts1;
         terms = rOk .terms;
         small-total = λ x. omega (arith, T1 x, rOk .small-total x);
-        small-got = λ x. omega (arith, G1 x, rOk .small-got x);
+        small-got = rOk .small-got;
       }
     where
       total1 : (x : Side) → totalsOf r1 x .total .0 ≡ T b1 x
@@ -219,12 +210,12 @@ module _ (h : Exchange) (y : History) (i : Inv h y) (k : ℕ) (hk : k < 64) (o :
       total1 Sell = rOk .total Sell ∙ sym (T1 Sell)
 
       paid1 : (x : Side) → totalsOf r1 x .paid .0 ≡ P b1 x
-      paid1 Buy = rOk .paid Buy ∙ sym (P1 Buy)
-      paid1 Sell = rOk .paid Sell ∙ sym (P1 Sell)
+      paid1 Buy = rOk .paid Buy
+      paid1 Sell = rOk .paid Sell
 
       got1 : (x : Side) → totalsOf r1 x .got .0 ≡ G b1 x
-      got1 Buy = rOk .got Buy ∙ sym (G1 Buy)
-      got1 Sell = rOk .got Sell ∙ sym (G1 Sell)
+      got1 Buy = rOk .got Buy
+      got1 Sell = rOk .got Sell
 
   -- ---- the state and history before the market's own change
 
@@ -237,7 +228,7 @@ module _ (h : Exchange) (y : History) (i : Inv h y) (k : ℕ) (hk : k < 64) (o :
   abbrev y2 : History
   y2 =
       withCredit
-      (withOrder (withPayout y (record { side = side; limit = lim; s = s; got = got })) k (placedOr (o .member) mk side lim rest))
+      (withOrder (withPayout y (record { terms = terms; s = s; got = got })) k (placedOr terms mk rest))
       (o .member) (wanted side mk) got
 
   sized1 : Sized h1
@@ -249,44 +240,42 @@ module _ (h : Exchange) (y : History) (i : Inv h y) (k : ℕ) (hk : k < 64) (o :
   kl : k < length (h .tickets)
   kl = omega (arith, i .sized .tickets)
 
-  tickets2 : (j : ℕ) → j < 64 → TicketBounds (ticket h2 j)
-  tickets2 = tickets-set h k (restingOr o rest) kl (ok-resting o rest oOk) (i .tickets)
+  bounds2 : (j : ℕ) → j < 64 → TicketBounds (ticket h2 j)
+  bounds2 = bounds-set h k (restingOr o rest) kl (ok-resting o rest oOk) (i .ticket-bounds)
 
-  orders2 : (j : ℕ) → j < 64 → y2 .orders j ≡ placedIn (ticket h2 j)
-  orders2 = orders-set h k (restingOr o rest) kl (y .orders) (placedOr (o .member) mk side lim rest) (placed-resting o rest) (i .orders)
-
-  -- places, whatever the market's round becomes, if its parts are at work as b1's are
-  places2 : (c : Current) → ((j : ℕ) → j < 64 → atWork (partIn c j) ≡ atWork (b1 .part j))
-      → (j : ℕ) → j < 64 → (a : ℕ) → 0 < a → a < 4 → atWork (partIn (put (y .rounds) mk c a) j) ≡ enteredIn (ticket h2 j) a
-  places2 c same =
-      places-part h k (restingOr o rest) kl (y .rounds) mk b q1 c er (oOk .market-low) (oOk .market-high) same
-      (sym (says-resting o rest mk))
-      (λ a d. ap (λ t. enteredIn t a) et ∙ ap (λ (q : Bool). cond q (waiting (o .member) side lim n) absent) (ne-eqb a mk d) ∙ sym (says-resting o rest a))
-      (i .places)
+  -- tickets, whatever the market's round becomes, if its unclaimed parts are as b1's are
+  tickets2 : (c : Current) → ((j : ℕ) → j < 64 → unclaimed (b1 .part j) ≡ unclaimed (partIn c j))
+      → TicketsAgree (ticket h2) (y2 .orders) (put (y .rounds) mk c)
+  tickets2 c same =
+      record {
+        tickets-are = placed-set h k (restingOr o rest) kl (i .tickets) (placedOr terms mk rest) (placed-resting o rest);
+        places-are =
+            places-part h k (restingOr o rest) kl (i .tickets) mk b q1 c er (oOk .market-low) (oOk .market-high) same
+            (says-resting o rest mk)
+            (λ a d. says-resting o rest a ∙ sym (ap (λ t. enteredIn t a) et ∙ ap (λ (q : Bool). cond q (waiting terms n) absent) (ne-eqb a mk d)));
+      }
 
   accounts2 : (j : ℕ) → j < 16 → (u : ℕ) → u < 4 → balance h2 j u + y2 .debits j u ≡ y2 .credits j u
   accounts2 =
-      account-credit (h .ledger) (y .credits) (y .debits) (i .sized .shaped) (o .member) (wanted side mk) got (oOk .member) (wanted-lt side mk (oOk .market-high)) (i .accounts)
+      account-credit (h .ledger) (y .credits) (y .debits) (i .sized .shaped) (o .member) (wanted side mk) got (oOk .member) (wanted-lt side mk (oOk .market-high)) (i .books .accounts)
 
   market-in : mk ≤ length (h .markets)
   market-in = omega (arith, i .sized .markets, oOk .market-high)
 
-  limit-is-kept : fetches side lim (s - 1) ≤ got
+  limit-is-kept : fetches side (o .limit .0) (s - 1) ≤ got
   limit-is-kept =
       rw (s-is, got-is)
-      (limit-kept side lim (r .hi .0) (r .lo .0) n (P b side) (G b side) (T b side) T-pos (waits .limit-pos) (waits .within) (rOk .rate side))
+      (limit-kept side (o .limit .0) (r .hi .0) (r .lo .0) n (P b side) (G b side) (T b side) T-pos (waits .limit-pos) (waits .within) (rOk .rate side))
 
   limits2 : All LimitKept (y2 .payouts)
-  limits2 = cons (record { kept = limit-is-kept }) (i .limits)
+  limits2 = cons (record { kept = limit-is-kept }) (i .past .limits)
 
   -- ---- amounts
 
   holds-b : (x : Side) → holds b x ≡ holds b1 x + movedOut x q1
-  unfolding holds
   holds-b x = omega (arith, came1 x, went1 x, rOk .held x, moved-le x)
 
   holds-b1 : (x : Side) → holds b1 x ≡ heldIn r1 x
-  unfolding holds
   holds-b1 x = omega (arith, held1 x)
 
   -- the round held what it holds now, the refund and the payment
@@ -294,7 +283,7 @@ module _ (h : Exchange) (y : History) (i : Inv h y) (k : ℕ) (hk : k < 64) (o :
   holdsOf-b u =
       let e0 : only 0 (holds b Buy) u ≡ only 0 (holds b1 Buy + movedOut Buy q1) u = ap (λ v. only 0 v u) (holds-b Buy) in
       let e1 : only mk (holds b Sell) u ≡ only mk (holds b1 Sell + movedOut Sell q1) u = ap (λ v. only mk v u) (holds-b Sell) in
-      omega (arith, only-add 0 (holds b1 Buy) (movedOut Buy q1) u, only-add mk (holds b1 Sell) (movedOut Sell q1) u, moved-split side mk (o .member) lim n s got u)
+      omega (arith, only-add 0 (holds b1 Buy) (movedOut Buy q1) u, only-add mk (holds b1 Sell) (movedOut Sell q1) u, moved-split side mk rest got u)
 
   resting2 : (u : ℕ) → _≡_ {A = ℕ} (restingIn (ticket h k) u) 0
   resting2 u = ap (λ t. restingIn t u) et
@@ -322,17 +311,17 @@ module _ (h : Exchange) (y : History) (i : Inv h y) (k : ℕ) (hk : k < 64) (o :
   goes-on =
       record {
         sized = sized-phase h2 mk (Paying r1) sized2;
-        tickets = tickets2;
-        orders = orders2;
-        places = places2 (running b1) (λ j hj. refl);
-        markets = markets-set h2 mk (Paying r1) (y .rounds) (running b1) (oOk .market-low) market-in round1 (i .markets);
-        conserved = λ u hu. omega (arith, grown u, rounds2 (running b1) u, holdsOf-b u, i .conserved u hu);
-        supplied = i .supplied;
         bounded = i .bounded;
-        accounts = accounts2;
-        residue-is = i .residue-is;
-        ended-well = i .ended-well;
-        limits = limits2;
+        ticket-bounds = bounds2;
+        markets = markets-set h2 mk (Paying r1) (y .rounds) (running b1) (oOk .market-low) market-in round1 (i .markets);
+        books =
+            record {
+              conserved = λ u hu. omega (arith, grown u, rounds2 (running b1) u, holdsOf-b u, i .books .conserved u hu);
+              supplied = i .books .supplied;
+              accounts = accounts2;
+            };
+        tickets = tickets2 (running b1) (λ j hj. refl);
+        past = record { residue-is = i .past .residue-is; ended-well = i .past .ended-well; limits = limits2 };
       }
 
   -- ---- the last claim
@@ -361,37 +350,41 @@ module _ (h : Exchange) (y : History) (i : Inv h y) (k : ℕ) (hk : k < 64) (o :
       )
 
   has-ticket : 0 < ticketCount b1
-  unfolding ticketCount
   has-ticket =
       let e : isTicket (b1 .part k) ≡ 1 = ap isTicket (put-same (b .part) k q1) in
       omega (arith, term-le 64 k (λ j. isTicket (b1 .part j)) hk)
 
   into : (u : ℕ) → u < 4 → residue h4 u ≡ sumOver (putBy u) (record { market = mk; log = b1 } ∷ y .ended)
   unfolding sumOver
-  into u hu = omega (arith, residue4 u, i .residue-is u hu)
+  into u hu = omega (arith, residue4 u, i .past .residue-is u hu)
 
   closes : waitingCount b1 ≡ 0 → Inv (withPhase h4 mk Closed) (withEnd y2 mk b1)
   closes last =
       record {
         sized = sized-phase h4 mk Closed sized4;
-        tickets = tickets2;
-        orders = orders2;
-        places = places2 idle (λ j hj. sym (over-work (b1 .part j) (none-waiting b1 last j hj)));
-        markets = markets-set h4 mk Closed (y .rounds) idle (oOk .market-low) market-in tt (i .markets);
-        conserved = λ u hu. omega (arith, grown u, rounds2 idle u, holdsOf-b u, residue4 u, i .conserved u hu);
-        supplied = i .supplied;
         bounded = i .bounded;
-        accounts = accounts2;
-        residue-is = into;
-        ended-well =
-            cons
-            (record {
-              pays = round-pays round1;
-              fewer = λ pos. fewer-of mk b1 (ticketCount b1) (oOk .market-low) pos (leaves (r .hi .0) (r .lo .0) b1 parts1 within1 empty1 (none-waiting b1 last) pos);
-              nothing-put = λ e x. absurd (omega (arith, has-ticket));
-            })
-            (i .ended-well);
-        limits = limits2;
+        ticket-bounds = bounds2;
+        markets = markets-set h4 mk Closed (y .rounds) idle (oOk .market-low) market-in tt (i .markets);
+        books =
+            record {
+              conserved = λ u hu. omega (arith, grown u, rounds2 idle u, holdsOf-b u, residue4 u, i .books .conserved u hu);
+              supplied = i .books .supplied;
+              accounts = accounts2;
+            };
+        tickets = tickets2 idle (λ j hj. not-unclaimed (b1 .part j) (none-waiting b1 last j hj));
+        past =
+            record {
+              residue-is = into;
+              ended-well =
+                  cons
+                  (record {
+                    pays = round-pays round1;
+                    fewer = λ pos. fewer-of mk b1 (ticketCount b1) (oOk .market-low) pos (leaves (r .hi .0) (r .lo .0) b1 parts1 within1 empty1 (none-waiting b1 last) pos);
+                    nothing-put = λ e x. absurd (omega (arith, has-ticket));
+                  })
+                  (i .past .ended-well);
+              limits = limits2;
+            };
       }
 
   -- ---- both
@@ -434,7 +427,7 @@ module _ (h : Exchange) (y : History) (i : Inv h y) (k : ℕ) (hk : k < 64) (o :
         other-balances = λ m t d. framed .1 m t ∙ credited-other (h .ledger) (o .member) (wanted side mk) got m t d;
       }
 
-  pub shares-are : (s ≡ sharePaid n (P b side) (T b side)) × (got ≡ shareGot n (G b side) (T b side))
+  pub shares-are : (s ≡ paidBy b terms n) × (got ≡ gotBy b terms n)
   shares-are = (s-is, got-is)
 
 -- ---- the call
@@ -448,15 +441,15 @@ claim-keeps h y k i p =
     let et : ticket h k ≡ Entered o = entered-is (ticket h k) (not-false (isEntered (ticket h k)) (p .1 .1 .0)) in
     let r : Round = roundIn (phase h (o .market)) in
     let ep : phase h (o .market) ≡ Paying r = paying-is (phase h (o .market)) (not-false (isPaying (phase h (o .market))) (p .1 .1 .1 .0)) in
-    let ok : OrderBounds o = subst TicketBounds et (i .tickets k hk) in
+    let ok : OrderBounds o = subst TicketBounds et (i .ticket-bounds k hk) in
     let er : y .rounds (o .market) ≡ running (logOf (y .rounds (o .market))) =
     running-is (phase h (o .market)) (y .rounds (o .market)) (ap isClosed ep) (i .markets (o .market) (ok .market-low) (ok .market-high)) in
-    let ey : y .orders k ≡ placedIn (Entered o) = i .orders k hk ∙ ap placedIn et in
+    let ey : placedIn (Entered o) ≡ y .orders k = sym (ap placedIn et) ∙ i .tickets .tickets-are k hk in
     subst
     (λ (v : PlacedOrder).
     Inv (claimDone h k .exchange)
     (withClaim y k v
     (sharePaid (o .offer .0) (totalsOf r (o .side) .paid .0) (totalsOf r (o .side) .total .0))
     (shareGot (o .offer .0) (totalsOf r (o .side) .got .0) (totalsOf r (o .side) .total .0))))
-    (sym ey)
+    ey
     (claim-ends h y i k hk o r (logOf (y .rounds (o .market))) et ep er)

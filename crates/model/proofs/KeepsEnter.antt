@@ -7,10 +7,10 @@ use lib.ListN.{length}
 use borrow.Author.Tests.{eq-eqb, ltb-false, ne-eqb, not-false}
 use Rattle.model.specs.Bounds.{OrderBounds, TicketBounds, heldIn}
 use Rattle.model.specs.Calls.{enterDone, enterTests, enteredRound}
-use Rattle.model.specs.History.{Current, G, History, P, Part, PlacedOrder, RoundLog, T, absent, cameIn, collecting, given, holds, logOf, movedOut, offerOn, put, running, taken, traded, waiting, wentOut, whenSame, withAccepted, withEnter, withEvent, withPart, withRound}
+use Rattle.model.specs.History.{Current, G, History, Part, PlacedOrder, RoundLog, T, absent, cameIn, collecting, holds, logOf, movedOut, offerOn, put, running, waiting, wentOut, whenSame, withAccepted, withEnter, withEvent, withPart, withRound}
 use Rattle.model.specs.Sides.{offered, other}
-use Rattle.model.specs.State.{isClosed, isCollect, orderIn, phase, residue, roundIn, supply, ticket, totalsOf, withPhase, withTicket}
-use Rattle.model.specs.WholeRun.{atWork, balances, currentHolds, enteredIn, holdsOf, partIn, placedIn, resting, restingIn, roundsTotal}
+use Rattle.model.specs.State.{isClosed, isCollect, orderIn, phase, residue, roundIn, ticket, totalsOf, withPhase, withTicket}
+use Rattle.model.specs.WholeRun.{balances, currentHolds, enteredIn, holdsOf, partIn, placedIn, resting, restingIn, roundsTotal, termsOf, unclaimed}
 use Rattle.model.specs.declared.state.Exchange.{Exchange}
 use Rattle.model.specs.declared.state.Order.{Order}
 use Rattle.model.specs.declared.state.Phase.the-variants.{Collect}
@@ -23,10 +23,10 @@ use Rattle.pricing.specs.declared.Side.the-variants.{Buy, Sell}
 use Rattle.ticket_set.specs.TicketSet.{inserted}
 use Rattle.units.specs.Counts.{largest}
 use Rattle.units.specs.Sums.{only}
-use Rattle.model.proofs.Frames.{each-ticket, markets-set, offered-lt, offered-split, places-part, tickets-set}
+use Rattle.model.proofs.Frames.{bounds-set, each-ticket, markets-set, offered-lt, offered-split, places-part}
 use Rattle.model.proofs.Inv.{Inv, MarketOk, PartOk, Quiet, RoundOk, changed-at, collect-is, resting-is, running-is}
 use Rattle.model.proofs.Reading.{Sized, inRounds-set, put-each, put-same, resting-set, sized-phase, sized-ticket}
-use Rattle.model.proofs.Rounds.{G-part, P-part, T-part, absent-is, cameIn-part, held-within, marks-part, part-early, went-zero, wentOut-part}
+use Rattle.model.proofs.Rounds.{T-part, absent-is, cameIn-part, held-within, marks-part, part-early, went-zero, wentOut-part}
 use Rattle.ticket_set.proofs.Bits.{bit-inserted-other, bit-inserted-same, inserted-lt}
 use Rattle.units.proofs.Decide.{Passed}
 use Rattle.units.proofs.Sums.{only-add}
@@ -71,7 +71,7 @@ module _ (h : Exchange) (y : History) (i : Inv h y) (k : ℕ) (hk : k < 64) (o :
   n = o .offer .0
 
   abbrev q1 : Part
-  q1 = waiting (o .member) side (o .limit .0) n
+  q1 = waiting (termsOf o) n
 
   abbrev b1 : RoundLog
   b1 = withPart b k q1
@@ -80,7 +80,7 @@ module _ (h : Exchange) (y : History) (i : Inv h y) (k : ℕ) (hk : k < 64) (o :
   r1 = enteredRound r k side n
 
   oOk : OrderBounds o
-  oOk = subst TicketBounds et (i .tickets k hk)
+  oOk = subst TicketBounds et (i .ticket-bounds k hk)
 
   both-ok : RoundOk collecting r b × Quiet b
   both-ok = subst₂ MarketOk ep er (i .markets mk (oOk .market-low) (oOk .market-high))
@@ -91,18 +91,12 @@ module _ (h : Exchange) (y : History) (i : Inv h y) (k : ℕ) (hk : k < 64) (o :
   part-is : b .part k ≡ absent
   part-is =
       absent-is collecting (λ e. e) (r .hi .0) (r .lo .0) b (b .part k) (rOk .parts k hk)
-      (ap (λ (c : Current). atWork (partIn c k)) (sym er)
-      ∙ i .places k hk mk (oOk .market-low) (oOk .market-high)
+      (ap (λ (c : Current). unclaimed (partIn c k)) (sym er)
+      ∙ sym (i .tickets .places-are k hk mk (oOk .market-low) (oOk .market-high))
       ∙ ap (λ (t : TicketState). enteredIn t mk) et)
 
   T1 : (x : Side) → T b1 x ≡ T b x + whenSame x side n
   T1 x = omega (arith, T-part b k q1 hk x, ap (offerOn x) part-is)
-
-  P1 : (x : Side) → P b1 x ≡ P b x
-  P1 x = P-part b k q1 hk x
-
-  G1 : (x : Side) → G b1 x ≡ G b x
-  G1 x = G-part b k q1 hk x
 
   came1 : (x : Side) → cameIn b1 x ≡ cameIn b x + whenSame x side n
   came1 x = omega (arith, cameIn-part b k q1 hk x, ap (offerOn x) part-is)
@@ -114,22 +108,10 @@ module _ (h : Exchange) (y : History) (i : Inv h y) (k : ℕ) (hk : k < 64) (o :
   held1 x = omega (arith, came1 x, went1 x, rOk .held x, entered-held r k n side x)
 
   quiet1 : Quiet b1
-  quiet1 = record { traded-zero = zt; taken-zero = zk; given-zero = zg }
-    where
-      zt : (x : Side) → traded b1 x ≡ 0
-      zt Buy = both-ok .1 .traded-zero Buy
-      zt Sell = both-ok .1 .traded-zero Sell
-
-      zk : (x : Side) → taken b1 x ≡ 0
-      zk Buy = both-ok .1 .taken-zero Buy
-      zk Sell = both-ok .1 .taken-zero Sell
-
-      zg : (x : Side) → given b1 x ≡ 0
-      zg Buy = both-ok .1 .given-zero Buy
-      zg Sell = both-ok .1 .given-zero Sell
+  quiet1 =
+      record { traded-zero = both-ok .1 .traded-zero; taken-zero = both-ok .1 .taken-zero; given-zero = both-ok .1 .given-zero }
 
   G-zero : (x : Side) → G b1 x ≡ 0
-  unfolding G
   G-zero x = omega (arith, quiet1 .traded-zero (other x), quiet1 .given-zero (other x))
 
   abbrev h1 : Exchange
@@ -145,7 +127,6 @@ module _ (h : Exchange) (y : History) (i : Inv h y) (k : ℕ) (hk : k < 64) (o :
   kl = omega (arith, i .sized .tickets)
 
   holds1 : (x : Side) → holds b1 x ≡ holds b x + whenSame x side n
-  unfolding holds
   holds1 x = omega (arith, came1 x, went1 x, rOk .held x)
 
   holdsOf1 : (u : ℕ) → holdsOf mk b1 u ≡ holdsOf mk b u + only (offered side mk) n u
@@ -164,12 +145,11 @@ module _ (h : Exchange) (y : History) (i : Inv h y) (k : ℕ) (hk : k < 64) (o :
       let e : currentHolds mk (y .rounds mk) u ≡ holdsOf mk b u = ap (λ (v : Current). currentHolds mk v u) er in
       omega (arith, inRounds-set y mk (running b1) (oOk .market-low) (oOk .market-high) u)
 
-  conserved1 : (u : ℕ) → u < 4 → balances h2 u + resting h2 u + roundsTotal (put (y .rounds) mk (running b1)) u + residue h2 u ≡ supply h2 u
-  conserved1 u hu = omega (arith, resting-set h1 k (Entered o) sized1 hk u, ap (λ t. restingIn t u) et, rounds1 u, holdsOf1 u, i .conserved u hu)
+  conserved1 : (u : ℕ) → u < 4 → balances h2 u + resting h2 u + roundsTotal (put (y .rounds) mk (running b1)) u + residue h2 u + y .withdrawn u ≡ y .deposited u
+  conserved1 u hu = omega (arith, resting-set h1 k (Entered o) sized1 hk u, ap (λ t. restingIn t u) et, rounds1 u, holdsOf1 u, i .books .conserved u hu)
 
   -- all that entered is still held, and what is held is within the supply
   small1 : (x : Side) → T b1 x ≤ largest
-  unfolding cameIn holds
   small1 x =
       let u : ℕ = offered x mk in
       let hu : u < 4 = offered-lt x mk (oOk .market-high) in
@@ -181,6 +161,7 @@ module _ (h : Exchange) (y : History) (i : Inv h y) (k : ℕ) (hk : k < 64) (o :
         both-ok .1 .taken-zero x,
         held-within mk (put (y .rounds) mk (running b1)) b1 x (oOk .market-low) (oOk .market-high) (put-same (y .rounds) mk (running b1)),
         conserved1 u hu,
+        i .books .supplied u hu,
         i .bounded u hu,
       )
 
@@ -189,14 +170,14 @@ module _ (h : Exchange) (y : History) (i : Inv h y) (k : ℕ) (hk : k < 64) (o :
       record {
         stage = rOk .stage;
         total = λ x. omega (arith, T1 x, entered-total r k n side x, rOk .total x);
-        paid = λ x. entered-paid r k n side x ∙ rOk .paid x ∙ sym (P1 x);
-        got = λ x. entered-got r k n side x ∙ rOk .got x ∙ sym (G1 x);
+        paid = λ x. entered-paid r k n side x ∙ rOk .paid x;
+        got = λ x. entered-got r k n side x ∙ rOk .got x;
         held = held1;
         marks = marks-part (r .tickets) (inserted (r .tickets) k) k b q1 (bit-inserted-same (r .tickets) k) (bit-inserted-other (r .tickets) k) (rOk .marks);
         marks-small = inserted-lt (r .tickets) k (rOk .marks-small) hk;
-        within = λ x. omega (arith, P1 x, T1 x, rOk .within x);
+        within = λ x. omega (arith, T1 x, rOk .within x);
         empty = λ x e. G-zero x;
-        rate = λ x. rw (P1 x, G1 x) (rOk .rate x);
+        rate = rOk .rate;
         parts =
             λ j hj. put-each (λ a q. PartOk collecting (r .hi .0) (r .lo .0) b1 q) (b .part) k q1 j
             (λ e. record { limit-pos = oOk .limit; offer-pos = oOk .offer; within = ok-limit })
@@ -210,23 +191,20 @@ module _ (h : Exchange) (y : History) (i : Inv h y) (k : ℕ) (hk : k < 64) (o :
   enters =
       record {
         sized = sized-ticket h1 k (Entered o) sized1;
-        tickets = tickets-set h1 k (Entered o) kl oOk (i .tickets);
-        orders =
-            λ j hj. i .orders j hj
-            ∙ sym (each-ticket h1 k (Entered o) kl (λ a t. placedIn t ≡ placedIn (ticket h a)) (sym (ap placedIn et)) j (λ d. refl));
-        places =
-            places-part h1 k (Entered o) kl (y .rounds) mk b q1 (running b1) er (oOk .market-low) (oOk .market-high) (λ j hj. refl)
-            (sym (ap (λ (v : Bool). cond v q1 absent) (eq-eqb mk mk refl)))
-            (λ a d. ap (λ t. enteredIn t a) et ∙ sym (ap (λ (v : Bool). cond v q1 absent) (ne-eqb a mk d)))
-            (i .places);
-        markets = markets-set h mk (Collect r1) (y .rounds) (running b1) (oOk .market-low) (omega (arith, i .sized .markets, oOk .market-high)) (round1, quiet1) (i .markets);
-        conserved = conserved1;
-        supplied = i .supplied;
         bounded = i .bounded;
-        accounts = i .accounts;
-        residue-is = i .residue-is;
-        ended-well = i .ended-well;
-        limits = i .limits;
+        ticket-bounds = bounds-set h1 k (Entered o) kl oOk (i .ticket-bounds);
+        markets = markets-set h mk (Collect r1) (y .rounds) (running b1) (oOk .market-low) (omega (arith, i .sized .markets, oOk .market-high)) (round1, quiet1) (i .markets);
+        books = record { conserved = conserved1; supplied = i .books .supplied; accounts = i .books .accounts };
+        tickets =
+            record {
+              tickets-are =
+                  λ j hj. each-ticket h1 k (Entered o) kl (λ a t. placedIn t ≡ placedIn (ticket h a)) (sym (ap placedIn et)) j (λ d. refl) ∙ i .tickets .tickets-are j hj;
+              places-are =
+                  places-part h1 k (Entered o) kl (i .tickets) mk b q1 (running b1) er (oOk .market-low) (oOk .market-high) (λ j hj. refl)
+                  (ap (λ (v : Bool). cond v q1 absent) (eq-eqb mk mk refl))
+                  (λ a d. ap (λ (v : Bool). cond v q1 absent) (ne-eqb a mk d) ∙ sym (ap (λ t. enteredIn t a) et));
+            };
+        past = i .past;
       }
 
 pub enter-keeps : (h : Exchange) (y : History) (k : ℕ) → Inv h y → Passed (enterTests h k)
@@ -238,13 +216,13 @@ enter-keeps h y k i p =
     let et : ticket h k ≡ Resting o = resting-is (ticket h k) (p .1 .0) (p .1 .1 .0) in
     let r : Round = roundIn (phase h (o .market)) in
     let ep : phase h (o .market) ≡ Collect r = collect-is (phase h (o .market)) (not-false (isCollect (phase h (o .market))) (p .1 .1 .1 .0)) in
-    let ok : OrderBounds o = subst TicketBounds et (i .tickets k hk) in
+    let ok : OrderBounds o = subst TicketBounds et (i .ticket-bounds k hk) in
     let er : y .rounds (o .market) ≡ running (logOf (y .rounds (o .market))) =
     running-is (phase h (o .market)) (y .rounds (o .market)) (ap isClosed ep) (i .markets (o .market) (ok .market-low) (ok .market-high)) in
-    let ey : y .orders k ≡ placedIn (Resting o) = i .orders k hk ∙ ap placedIn et in
+    let ey : placedIn (Resting o) ≡ y .orders k = sym (ap placedIn et) ∙ i .tickets .tickets-are k hk in
     let w = p .1 .1 .1 .1 .0 in
     let b : RoundLog = logOf (y .rounds (o .market)) in
-    subst (λ (v : PlacedOrder). Inv (enterDone h k .exchange) (withEnter y k v)) (sym ey)
+    subst (λ (v : PlacedOrder). Inv (enterDone h k .exchange) (withEnter y k v)) ey
     (subst (λ (c : Current). Inv (enterDone h k .exchange) (withRound y (o .market) c))
-    (sym (changed-at collecting (λ b. withPart b k (waiting (o .member) (o .side) (o .limit .0) (o .offer .0))) (y .rounds (o .market)) b er (rOk h y i k hk o r b et ep er w .stage)))
+    (sym (changed-at collecting (λ b. withPart b k (waiting (termsOf o) (o .offer .0))) (y .rounds (o .market)) b er (rOk h y i k hk o r b et ep er w .stage)))
     (enters h y i k hk o r b et ep er w))

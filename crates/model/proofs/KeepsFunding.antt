@@ -11,7 +11,7 @@ use Rattle.model.specs.declared.state.Exchange.{Exchange}
 use Rattle.units.specs.Counts.{largest}
 use Rattle.units.specs.Sums.{only}
 use Rattle.ledger.proofs.Laws.{balance-le-total, credited-total, debited-total}
-use Rattle.model.proofs.Inv.{Inv}
+use Rattle.model.proofs.Inv.{Inv, in-supply}
 use Rattle.model.proofs.Reading.{account-credit, account-debit, put-only, sized-credit, sized-debit, sized-supply, supply-minus, supply-plus}
 use Rattle.units.proofs.Decide.{Passed}
 use Rattle.units.proofs.Sums.{only-other, only-same}
@@ -35,17 +35,17 @@ deposit-keeps h y m t n a b i p =
     let zs : (u : ℕ) → supply h1 u ≡ supply h u + only t n u = λ u. supply-plus h t n u (omega (arith, i .sized .supplies)) in
     record {
       sized = sized-credit h1 m t n (sized-supply h t (supply h t + n) (i .sized));
-      tickets = i .tickets;
-      orders = i .orders;
-      places = i .places;
-      markets = i .markets;
-      conserved = λ u hu. omega (arith, credited-total (h .ledger) m t n (i .sized .shaped) (omega arith) (omega arith) u, zs u, i .conserved u hu);
-      supplied = λ u hu. omega (arith, zs u, put-only (y .deposited) t n u, i .supplied u hu);
-      accounts = account-credit (h .ledger) (y .credits) (y .debits) (i .sized .shaped) m t n (omega arith) (omega arith) (i .accounts);
       bounded = λ u hu. omega (arith, zs u, only-le (supply h) t n largest u hs (i .bounded u hu));
-      residue-is = i .residue-is;
-      ended-well = i .ended-well;
-      limits = i .limits;
+      ticket-bounds = i .ticket-bounds;
+      markets = i .markets;
+      books =
+          record {
+            conserved = λ u hu. omega (arith, credited-total (h .ledger) m t n (i .sized .shaped) (omega arith) (omega arith) u, put-only (y .deposited) t n u, i .books .conserved u hu);
+            supplied = λ u hu. omega (arith, zs u, put-only (y .deposited) t n u, i .books .supplied u hu);
+            accounts = account-credit (h .ledger) (y .credits) (y .debits) (i .sized .shaped) m t n (omega arith) (omega arith) (i .books .accounts);
+          };
+      tickets = i .tickets;
+      past = i .past;
     }
 
 pub withdraw-keeps : (h : Exchange) (y : History) (m t n a b : ℕ) → Inv h y → Passed (withdrawTests h m t n)
@@ -55,20 +55,20 @@ withdraw-keeps h y m t n a b i p =
     let hm : m ≤ 15 = ltb-false 15 m (p .0) in
     let ht : t ≤ 3 = ltb-false 3 t (p .1 .0) in
     let hn : n ≤ balance h m t = ltb-false (balance h m t) n (p .1 .1 .1 .0) in
-    let hs : n ≤ supply h t = omega (arith, balance-le-total (h .ledger) m t (omega arith), i .conserved t (omega arith)) in
+    let hs : n ≤ supply h t = omega (arith, balance-le-total (h .ledger) m t (omega arith), in-supply i t (omega arith)) in
     let h1 : Exchange = withSupply h t (supply h t - n) in
     let zs : (u : ℕ) → supply h1 u + only t n u ≡ supply h u = λ u. supply-minus h t n u (omega (arith, i .sized .supplies)) hs in
     record {
       sized = sized-debit h1 m t n (sized-supply h t (supply h t - n) (i .sized));
-      tickets = i .tickets;
-      orders = i .orders;
-      places = i .places;
-      markets = i .markets;
-      conserved = λ u hu. omega (arith, debited-total (h .ledger) m t n (i .sized .shaped) (omega arith) (omega arith) hn u, zs u, i .conserved u hu);
-      supplied = λ u hu. omega (arith, zs u, put-only (y .withdrawn) t n u, i .supplied u hu);
-      accounts = account-debit (h .ledger) (y .credits) (y .debits) (i .sized .shaped) m t n (omega arith) (omega arith) (i .accounts) hn;
       bounded = λ u hu. omega (arith, zs u, i .bounded u hu);
-      residue-is = i .residue-is;
-      ended-well = i .ended-well;
-      limits = i .limits;
+      ticket-bounds = i .ticket-bounds;
+      markets = i .markets;
+      books =
+          record {
+            conserved = λ u hu. omega (arith, debited-total (h .ledger) m t n (i .sized .shaped) (omega arith) (omega arith) hn u, put-only (y .withdrawn) t n u, i .books .conserved u hu);
+            supplied = λ u hu. omega (arith, zs u, put-only (y .withdrawn) t n u, i .books .supplied u hu);
+            accounts = account-debit (h .ledger) (y .credits) (y .debits) (i .sized .shaped) m t n (omega arith) (omega arith) (i .books .accounts) hn;
+          };
+      tickets = i .tickets;
+      past = i .past;
     }

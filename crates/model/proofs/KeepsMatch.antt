@@ -7,7 +7,7 @@ use Rattle.model.specs.Bounds.{heldIn}
 use Rattle.model.specs.Calls.{matchDone, matchTests, matchedRound, tradeOf}
 use Rattle.model.specs.History.{Current, G, History, P, RoundLog, T, auctioning, cameIn, collecting, logOf, running, wentOut, withAccepted, withEvent, withMatch, withRound}
 use Rattle.model.specs.State.{isClosed, isCollect, phase, roundIn, totalsOf, withBlock, withPhase}
-use Rattle.model.specs.WholeRun.{atWork, currentHolds, holdsOf, partIn}
+use Rattle.model.specs.WholeRun.{currentHolds, partIn, unclaimed}
 use Rattle.model.specs.declared.state.Exchange.{Exchange}
 use Rattle.model.specs.declared.state.Phase.the-variants.{Auction, Collect}
 use Rattle.model.specs.declared.state.Round.{Round}
@@ -17,7 +17,7 @@ use Rattle.pricing.specs.declared.Side.the-variants.{Buy, Sell}
 use Rattle.units.specs.Counts.{largest}
 use Rattle.model.proofs.Frames.{inside, phase-keeps}
 use Rattle.model.proofs.Inv.{Inv, MarketOk, Quiet, RoundOk, changed-at, collect-is, running-is}
-use Rattle.model.proofs.Rounds.{T-restaged, came-restaged, holdsOf-restaged, part-early, went-restaged}
+use Rattle.model.proofs.Rounds.{part-early}
 use Rattle.pricing.proofs.Limits.{rate-trade-buy, rate-trade-sell}
 use Rattle.pricing.proofs.Trades.{quote-some, trade-fits}
 use Rattle.units.proofs.Decide.{Passed}
@@ -52,22 +52,11 @@ module _ (h : Exchange) (y : History) (i : Inv h y) (mk at : ℕ) (pos : 0 < mk)
   nothing-traded : (m ≡ 0 → c ≡ 0) × (1 ≤ r .lo .0 → c ≡ 0 → m ≡ 0)
   nothing-traded = quote-some (T b Buy) (T b Sell) (r .lo .0) (r .hi .0) (tradeOf r) fits
 
-  T1 : (x : Side) → T b1 x ≡ T b x
-  T1 = T-restaged b auctioning m c
-
   P1 : (P b1 Buy ≡ c) × (P b1 Sell ≡ m)
-  unfolding P
   P1 = (omega (arith, both-ok .1 .taken-zero Buy), omega (arith, both-ok .1 .taken-zero Sell))
 
   G1 : (G b1 Buy ≡ m) × (G b1 Sell ≡ c)
-  unfolding G
   G1 = (omega (arith, both-ok .1 .given-zero Sell), omega (arith, both-ok .1 .given-zero Buy))
-
-  came1 : (x : Side) → cameIn b1 x ≡ cameIn b x
-  came1 = came-restaged b auctioning m c
-
-  went1 : (x : Side) → wentOut b1 x ≡ wentOut b x
-  went1 = went-restaged b auctioning m c
 
   round1 : RoundOk auctioning r1 b1
   round1 =
@@ -84,13 +73,13 @@ module _ (h : Exchange) (y : History) (i : Inv h y) (mk at : ℕ) (pos : 0 < mk)
         rate = rate1;
         parts = λ k l. part-early collecting (λ e. e) (r .hi .0) (r .lo .0) b auctioning b1 (b .part k) (rOk .parts k l);
         terms = rOk .terms;
-        small-total = λ x. omega (arith, T1 x, rOk .small-total x);
+        small-total = rOk .small-total;
         small-got = small1;
       }
     where
       total1 : (x : Side) → totalsOf r1 x .total .0 ≡ T b1 x
-      total1 Buy = rOk .total Buy ∙ sym (T1 Buy)
-      total1 Sell = rOk .total Sell ∙ sym (T1 Sell)
+      total1 Buy = rOk .total Buy
+      total1 Sell = rOk .total Sell
 
       paid1 : (x : Side) → totalsOf r1 x .paid .0 ≡ P b1 x
       paid1 Buy = sym (P1 .0)
@@ -101,16 +90,16 @@ module _ (h : Exchange) (y : History) (i : Inv h y) (mk at : ℕ) (pos : 0 < mk)
       got1 Sell = sym (G1 .1)
 
       held1 : (x : Side) → heldIn r1 x + wentOut b1 x ≡ cameIn b1 x
-      held1 Buy = omega (arith, rOk .held Buy, came1 Buy, went1 Buy)
-      held1 Sell = omega (arith, rOk .held Sell, came1 Sell, went1 Sell)
+      held1 Buy = rOk .held Buy
+      held1 Sell = rOk .held Sell
 
       within1 : (x : Side) → P b1 x ≤ T b1 x
-      within1 Buy = omega (arith, P1, T1 Buy, fits .quote-fits)
-      within1 Sell = omega (arith, P1, T1 Sell, fits .base-fits)
+      within1 Buy = omega (arith, P1, fits .quote-fits)
+      within1 Sell = omega (arith, P1, fits .base-fits)
 
       empty1 : (x : Side) → T b1 x ≡ 0 → G b1 x ≡ 0
-      empty1 Buy e = G1 .0 ∙ nothing-traded .1 (rOk .terms .low) (omega (arith, fits .quote-fits, T1 Buy))
-      empty1 Sell e = G1 .1 ∙ nothing-traded .0 (omega (arith, fits .base-fits, T1 Sell))
+      empty1 Buy e = G1 .0 ∙ nothing-traded .1 (rOk .terms .low) (omega (arith, fits .quote-fits))
+      empty1 Sell e = G1 .1 ∙ nothing-traded .0 (omega (arith, fits .base-fits))
 
       small1 : (x : Side) → G b1 x ≤ largest
       small1 Buy = omega (arith, G1, fits .base-fits, rOk .small-total Sell)
@@ -120,14 +109,11 @@ module _ (h : Exchange) (y : History) (i : Inv h y) (mk at : ℕ) (pos : 0 < mk)
       rate1 Buy = rw (P1 .0, G1 .0) (rate-trade-buy (T b Buy) (T b Sell) (r .lo .0) (r .hi .0) (tradeOf r) fits)
       rate1 Sell = rw (P1 .1, G1 .1) (rate-trade-sell (T b Buy) (T b Sell) (r .lo .0) (r .hi .0) (tradeOf r) fits)
 
-  holdsOf1 : (u : ℕ) → holdsOf mk b1 u ≡ holdsOf mk b u
-  holdsOf1 = holdsOf-restaged b auctioning m c mk
-
   matches : Inv (withBlock (withPhase h mk (Auction r1)) at) (withRound y mk (running b1))
   matches =
       phase-keeps h y i mk at pos lt4 (Auction r1) (running b1) round1
-      (λ j hj. sym (ap (λ (v : Current). atWork (partIn v j)) er))
-      (λ u. holdsOf1 u ∙ sym (ap (λ (v : Current). currentHolds mk v u) er))
+      (λ j hj. ap (λ (v : Current). unclaimed (partIn v j)) er)
+      (λ u. sym (ap (λ (v : Current). currentHolds mk v u) er))
 
 pub match-keeps : (h : Exchange) (y : History) (mk at : ℕ) → Inv h y → Passed (matchTests h mk at)
     → Inv (matchDone h mk at .exchange) (withEvent y (Call.Match mk at) (matchDone h mk at .answer))

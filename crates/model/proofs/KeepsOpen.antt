@@ -6,11 +6,12 @@ use native.Mathlib.Nat.{zero-sub}
 use native.Mathlib.Omega.{arith}
 use lib.Dec.{lit<, ltb}
 use borrow.Author.Tests.{ltb-false, not-false}
+use Rattle.units.specs.Ranges.{highestReference, highestSlack}
 use Rattle.model.specs.Bounds.{heldIn}
 use Rattle.model.specs.Calls.{openDone, openTests, openedRound, outside}
-use Rattle.model.specs.History.{Current, G, History, P, T, absent, cameIn, collecting, emptyLog, given, holds, idle, movedOut, openedOn, running, taken, traded, wentOut, withAccepted, withEvent, withRound}
+use Rattle.model.specs.History.{Current, G, History, P, T, absent, cameIn, collecting, emptyLog, given, idle, movedOut, roundBegun, running, taken, traded, wentOut, withAccepted, withEvent, withRound}
 use Rattle.model.specs.State.{isClosed, phase, totalsOf}
-use Rattle.model.specs.WholeRun.{atWork, currentHolds, holdsOf, partIn}
+use Rattle.model.specs.WholeRun.{currentHolds, holdsOf, partIn, unclaimed}
 use Rattle.model.specs.declared.state.Exchange.{Exchange}
 use Rattle.model.specs.declared.state.Phase.{Phase}
 use Rattle.model.specs.declared.state.Phase.the-variants.{Closed, Collect}
@@ -30,31 +31,25 @@ use Rattle.model.specs.declared.call.Call.the-variants as Call
 -- ---- a round without tickets
 
 T-empty : (x : Side) → T emptyLog x ≡ 0
-unfolding T
 T-empty x = sum-zero 64 _ (λ k l. refl)
 
 P-empty : (x : Side) → P emptyLog x ≡ 0
-unfolding P
 P-empty Buy = refl
 P-empty Sell = refl
 
 G-empty : (x : Side) → G emptyLog x ≡ 0
-unfolding G
 G-empty Buy = refl
 G-empty Sell = refl
 
 came-empty : (x : Side) → cameIn emptyLog x ≡ 0
-unfolding cameIn
 came-empty Buy = omega (arith, T-empty Buy)
 came-empty Sell = omega (arith, T-empty Sell)
 
 went-empty : (x : Side) → wentOut emptyLog x ≡ 0
-unfolding wentOut
 went-empty Buy = omega (arith, sum-zero 64 (λ k. movedOut Buy absent) (λ k l. refl))
 went-empty Sell = omega (arith, sum-zero 64 (λ k. movedOut Sell absent) (λ k l. refl))
 
 holdsOf-empty : (mk u : ℕ) → holdsOf mk emptyLog u ≡ 0
-unfolding holds
 holdsOf-empty mk u =
     omega (
       arith,
@@ -66,7 +61,7 @@ holdsOf-empty mk u =
       only-zero mk u,
     )
 
-opened-ok : (at r w len : ℕ) → 1 ≤ r → r ≤ 1000000000 → w ≤ 500000 → 0 < len → len ≤ 64 → RoundOk collecting (openedRound at r w len) emptyLog
+opened-ok : (at r w len : ℕ) → 1 ≤ r → r ≤ highestReference → w ≤ highestSlack → 0 < len → len ≤ 64 → RoundOk collecting (openedRound at r w len) emptyLog
 opened-ok at r w len hr hr2 hw hl hl2 =
     record {
       stage = refl;
@@ -129,17 +124,17 @@ pub open-keeps : (h : Exchange) (y : History) (mk at r w len : ℕ) → Inv h y 
 unfolding withEvent withAccepted
 open-keeps h y mk at r w len i p =
     let hmk : (1 ≤ mk) × (mk ≤ 3) = inside mk 1 3 (p .0) in
-    let e1 : (outside r 1 1000000000 ≡ false) × ((ltb 500000 w || outside len 1 64) ≡ false) = or-false (outside r 1 1000000000) (ltb 500000 w || outside len 1 64) (p .1 .0) in
-    let e2 : (ltb 500000 w ≡ false) × (outside len 1 64 ≡ false) = or-false (ltb 500000 w) (outside len 1 64) (e1 .1) in
-    let hr : (1 ≤ r) × (r ≤ 1000000000) = inside r 1 1000000000 (e1 .0) in
-    let hw : w ≤ 500000 = ltb-false 500000 w (e2 .0) in
+    let e1 : (outside r 1 highestReference ≡ false) × ((ltb highestSlack w || outside len 1 64) ≡ false) = or-false (outside r 1 highestReference) (ltb highestSlack w || outside len 1 64) (p .1 .0) in
+    let e2 : (ltb highestSlack w ≡ false) × (outside len 1 64 ≡ false) = or-false (ltb highestSlack w) (outside len 1 64) (e1 .1) in
+    let hr : (1 ≤ r) × (r ≤ highestReference) = inside r 1 highestReference (e1 .0) in
+    let hw : w ≤ highestSlack = ltb-false highestSlack w (e2 .0) in
     let hl : (1 ≤ len) × (len ≤ 64) = inside len 1 64 (e2 .1) in
     let ep : phase h mk ≡ Closed = closed-is (phase h mk) (not-false (isClosed (phase h mk)) (p .1 .1 .0)) in
     let pos : 0 < mk = omega arith in
     let lt4 : mk < 4 = omega arith in
     let er : y .rounds mk ≡ idle = idle-is (y .rounds mk) (subst (λ (v : Phase). MarketOk v (y .rounds mk)) ep (i .markets mk pos lt4)) in
-    subst (λ (v : Current). Inv (openDone h mk at r w len .exchange) (withRound y mk v)) (sym (ap openedOn er))
+    subst (λ (v : Current). Inv (openDone h mk at r w len .exchange) (withRound y mk v)) (sym (ap roundBegun er))
     (phase-keeps h y i mk at pos lt4 (Collect (openedRound at r w len)) (running emptyLog)
     (opened-ok at r w len (hr .0) (hr .1) hw (omega arith) (hl .1), quiet-empty)
-    (λ j hj. sym (ap (λ (c : Current). atWork (partIn c j)) er))
+    (λ j hj. ap (λ (c : Current). unclaimed (partIn c j)) er)
     (λ u. holdsOf-empty mk u ∙ sym (ap (λ (c : Current). currentHolds mk c u) er)))

@@ -4,20 +4,22 @@ use mathlib.Core.Bool.{false, not}
 use mathlib.Core.Path.{_∙_, _≡_, ap, refl, subst, sym}
 use native.Mathlib.Omega.{arith}
 use lib.Dec.{eqb}
+use lib.ListN.{length}
 use borrow.Author.Tests.{eqb-false, ltb-false, not-false}
+use Rattle.units.specs.Ranges.{highestLimit}
 use Rattle.model.specs.Bounds.{OrderBounds, TicketBounds}
 use Rattle.model.specs.Calls.{cancelDone, cancelTests, orderDone, orderTests, outside}
-use Rattle.model.specs.History.{History, PlacedOrder, memberIn, no-order, placed, tokenIn, withAccepted, withCredit, withEvent, withOrder}
+use Rattle.model.specs.History.{History, PlacedOrder, no-order, offeredIn, placed, termsIn, withAccepted, withCredit, withEvent, withOrder}
 use Rattle.model.specs.Sides.{offered, sideOf}
 use Rattle.model.specs.State.{balance, credit, debit, isFree, orderIn, ticket}
-use Rattle.model.specs.WholeRun.{enteredIn, placedIn, restingIn}
+use Rattle.model.specs.WholeRun.{enteredIn, placedIn, restingIn, termsOf}
 use Rattle.model.specs.declared.state.Exchange.{Exchange}
 use Rattle.model.specs.declared.state.Order.{Order}
 use Rattle.model.specs.declared.state.TicketState.the-variants.{Free, Resting}
 use Rattle.units.specs.Counts.{amount, price}
 use Rattle.units.specs.Sums.{only}
 use Rattle.ledger.proofs.Laws.{credited-total, debited-total}
-use Rattle.model.proofs.Frames.{inside, offered-lt, orders-set, places-set, tickets-set}
+use Rattle.model.proofs.Frames.{bounds-set, inside, offered-lt, tickets-set}
 use Rattle.model.proofs.Inv.{Inv, free-is, resting-is}
 use Rattle.model.proofs.Reading.{Sized, account-credit, account-debit, resting-set, sized-credit, sized-debit, sized-ticket}
 use Rattle.units.proofs.Decide.{Passed, or-false}
@@ -31,8 +33,8 @@ order-keeps h y k m mk sd lim n i p =
     let hm : m ≤ 15 = ltb-false 15 m (p .0) in
     let hmk : (1 ≤ mk) × (mk ≤ 3) = inside mk 1 3 (p .1 .0) in
     let hk : k ≤ 63 = ltb-false 63 k (p .1 .1 .0) in
-    let ea : (eqb n 0 ≡ false) × (outside lim 1 2000000000 ≡ false) = or-false (eqb n 0) (outside lim 1 2000000000) (p .1 .1 .1 .1 .0) in
-    let hl : (1 ≤ lim) × (lim ≤ 2000000000) = inside lim 1 2000000000 (ea .1) in
+    let ea : (eqb n 0 ≡ false) × (outside lim 1 highestLimit ≡ false) = or-false (eqb n 0) (outside lim 1 highestLimit) (p .1 .1 .1 .1 .0) in
+    let hl : (1 ≤ lim) × (lim ≤ highestLimit) = inside lim 1 highestLimit (ea .1) in
     let hn : n ≡ 0 → ⊥ = eqb-false n 0 (ea .0) in
     let et : ticket h k ≡ Free = free-is (ticket h k) (not-false (isFree (ticket h k)) (p .1 .1 .1 .1 .1 .0)) in
     let hb : n ≤ balance h m tok = ltb-false (balance h m tok) n (p .1 .1 .1 .1 .1 .1 .0) in
@@ -42,26 +44,27 @@ order-keeps h y k m mk sd lim n i p =
     let lk : k < 64 = omega arith in
     let er : (u : ℕ) → restingIn (ticket h k) u ≡ 0 = λ u. ap (λ t. restingIn t u) et in
     let ok : OrderBounds o = record { member = omega arith; market-low = omega arith; market-high = omega arith; limit = omega arith; offer = omega arith } in
+    let kl : k < length (h1 .tickets) = omega (arith, z1 .tickets) in
     record {
       sized = sized-ticket h1 k (Resting o) z1;
-      tickets = tickets-set h1 k (Resting o) (omega (arith, z1 .tickets)) ok (i .tickets);
-      orders = orders-set h1 k (Resting o) (omega (arith, z1 .tickets)) (y .orders) (placed m mk (sideOf sd) lim n) refl (i .orders);
-      places = places-set h1 k (Resting o) (omega (arith, z1 .tickets)) (y .rounds) (λ a. sym (ap (λ t. enteredIn t a) et)) (i .places);
-      markets = i .markets;
-      conserved =
-          λ u hu. omega (
-            arith,
-            debited-total (h .ledger) m tok n (i .sized .shaped) (omega arith) (offered-lt (sideOf sd) mk (omega arith)) hb u,
-            resting-set h1 k (Resting o) z1 lk u,
-            er u,
-            i .conserved u hu,
-          );
-      supplied = i .supplied;
       bounded = i .bounded;
-      accounts = account-debit (h .ledger) (y .credits) (y .debits) (i .sized .shaped) m tok n (omega arith) (offered-lt (sideOf sd) mk (omega arith)) (i .accounts) hb;
-      residue-is = i .residue-is;
-      ended-well = i .ended-well;
-      limits = i .limits;
+      ticket-bounds = bounds-set h1 k (Resting o) kl ok (i .ticket-bounds);
+      markets = i .markets;
+      books =
+          record {
+            conserved =
+                λ u hu. omega (
+                  arith,
+                  debited-total (h .ledger) m tok n (i .sized .shaped) (omega arith) (offered-lt (sideOf sd) mk (omega arith)) hb u,
+                  resting-set h1 k (Resting o) z1 lk u,
+                  er u,
+                  i .books .conserved u hu,
+                );
+            supplied = i .books .supplied;
+            accounts = account-debit (h .ledger) (y .credits) (y .debits) (i .sized .shaped) m tok n (omega arith) (offered-lt (sideOf sd) mk (omega arith)) (i .books .accounts) hb;
+          };
+      tickets = tickets-set h1 k (Resting o) kl (i .tickets) (placed (termsOf o) mk n) refl (λ a. sym (ap (λ t. enteredIn t a) et));
+      past = i .past;
     }
 
 pub cancel-keeps : (h : Exchange) (y : History) (k m : ℕ) → Inv h y → Passed (cancelTests h k m)
@@ -73,30 +76,31 @@ cancel-keeps h y k m i p =
     let hk : k ≤ 63 = ltb-false 63 k (p .1 .0) in
     let lk : k < 64 = omega arith in
     let et : ticket h k ≡ Resting o = resting-is (ticket h k) (or-false (isFree (ticket h k)) (not (eqb (o .member) m)) (p .1 .1 .0) .0) (p .1 .1 .1 .0) in
-    let ok : OrderBounds o = subst TicketBounds et (i .tickets k lk) in
+    let ok : OrderBounds o = subst TicketBounds et (i .ticket-bounds k lk) in
     let h1 : Exchange = credit h (o .member) tok (o .offer .0) in
     let z1 : Sized h1 = sized-credit h (o .member) tok (o .offer .0) (i .sized) in
     let er : (u : ℕ) → restingIn (ticket h k) u ≡ only tok (o .offer .0) u = λ u. ap (λ t. restingIn t u) et in
-    let ey : y .orders k ≡ placedIn (Resting o) = i .orders k lk ∙ ap placedIn et in
-    subst (λ (v : PlacedOrder). Inv (cancelDone h k .exchange) (withCredit (withOrder y k no-order) (memberIn v) (tokenIn v) (o .offer .0))) (sym ey)
+    let ey : placedIn (Resting o) ≡ y .orders k = sym (ap placedIn et) ∙ i .tickets .tickets-are k lk in
+    let kl : k < length (h1 .tickets) = omega (arith, z1 .tickets) in
+    subst (λ (v : PlacedOrder). Inv (cancelDone h k .exchange) (withCredit (withOrder y k no-order) (termsIn v .member) (offeredIn v) (o .offer .0))) ey
     (record {
       sized = sized-ticket h1 k Free z1;
-      tickets = tickets-set h1 k Free (omega (arith, z1 .tickets)) tt (i .tickets);
-      orders = orders-set h1 k Free (omega (arith, z1 .tickets)) (y .orders) no-order refl (i .orders);
-      places = places-set h1 k Free (omega (arith, z1 .tickets)) (y .rounds) (λ a. sym (ap (λ t. enteredIn t a) et)) (i .places);
-      markets = i .markets;
-      conserved =
-          λ u hu. omega (
-            arith,
-            credited-total (h .ledger) (o .member) tok (o .offer .0) (i .sized .shaped) (ok .member) (offered-lt (o .side) (o .market) (ok .market-high)) u,
-            resting-set h1 k Free z1 lk u,
-            er u,
-            i .conserved u hu,
-          );
-      supplied = i .supplied;
       bounded = i .bounded;
-      accounts = account-credit (h .ledger) (y .credits) (y .debits) (i .sized .shaped) (o .member) tok (o .offer .0) (ok .member) (offered-lt (o .side) (o .market) (ok .market-high)) (i .accounts);
-      residue-is = i .residue-is;
-      ended-well = i .ended-well;
-      limits = i .limits;
+      ticket-bounds = bounds-set h1 k Free kl tt (i .ticket-bounds);
+      markets = i .markets;
+      books =
+          record {
+            conserved =
+                λ u hu. omega (
+                  arith,
+                  credited-total (h .ledger) (o .member) tok (o .offer .0) (i .sized .shaped) (ok .member) (offered-lt (o .side) (o .market) (ok .market-high)) u,
+                  resting-set h1 k Free z1 lk u,
+                  er u,
+                  i .books .conserved u hu,
+                );
+            supplied = i .books .supplied;
+            accounts = account-credit (h .ledger) (y .credits) (y .debits) (i .sized .shaped) (o .member) tok (o .offer .0) (ok .member) (offered-lt (o .side) (o .market) (ok .market-high)) (i .books .accounts);
+          };
+      tickets = tickets-set h1 k Free kl (i .tickets) no-order refl (λ a. sym (ap (λ t. enteredIn t a) et));
+      past = i .past;
     })

@@ -7,20 +7,20 @@ use native.Mathlib.Omega.{arith}
 use lib.Dec.{eqb}
 use borrow.Author.Tests.{eqb-true, not-false}
 use Rattle.model.specs.Calls.{settleDone, settleTests, settledPhase}
-use Rattle.model.specs.History.{Current, G, History, P, RoundLog, T, absent, auctioning, cameIn, endOrRound, given, holds, idle, isTicket, logOf, offerOn, running, settled, ticketCount, waitingCount, wentOut, withAccepted, withEnd, withEvent, withRound, withSettle}
+use Rattle.model.specs.History.{Current, History, RoundLog, T, absent, auctioning, endOrRound, given, holds, idle, isTicket, logOf, offerOn, running, settled, ticketCount, waitingCount, withAccepted, withEnd, withEvent, withRound, withSettle}
 use Rattle.model.specs.State.{isAuction, isClosed, phase, residue, roundIn, withBlock, withPhase}
-use Rattle.model.specs.WholeRun.{atWork, cons, currentHolds, holdsOf, partIn, putBy}
+use Rattle.model.specs.WholeRun.{cons, currentHolds, holdsOf, partIn, putBy, unclaimed}
 use Rattle.model.specs.declared.state.Exchange.{Exchange}
 use Rattle.model.specs.declared.state.Phase.the-variants.{Auction, Closed, Paying}
 use Rattle.model.specs.declared.state.Round.{Round}
 use Rattle.pricing.specs.declared.Side.{Side}
 use Rattle.pricing.specs.declared.Side.the-variants.{Buy, Sell}
 use Rattle.units.specs.Sums.{only, sumOver}
-use Rattle.model.proofs.Frames.{inside, markets-set, phase-keeps, places-round}
+use Rattle.model.proofs.Frames.{inside, phase-keeps, markets-set, tickets-round}
 use Rattle.model.proofs.Inv.{Inv, MarketOk, RoundOk, auction-is, ended-at, running-is}
 use Rattle.model.proofs.KeepsClaim.{pays}
 use Rattle.model.proofs.Reading.{inRounds-set, sized-block, sized-phase}
-use Rattle.model.proofs.Rounds.{T-restaged, absent-is, came-restaged, holdsOf-restaged, marks-count, none-waiting, over-work, part-early, round-pays, went-restaged}
+use Rattle.model.proofs.Rounds.{absent-is, marks-count, none-waiting, not-unclaimed, part-early, round-pays}
 use Rattle.units.proofs.Decide.{Passed}
 use Rattle.units.proofs.Sums.{only-zero, sum-zero}
 use Rattle.model.specs.declared.call.Call.the-variants as Call
@@ -33,108 +33,87 @@ module _ (h : Exchange) (y : History) (i : Inv h y) (mk at : ℕ) (pos : 0 < mk)
   rOk : RoundOk auctioning r b
   rOk = subst₂ MarketOk ep er (i .markets mk pos lt4)
 
-  T1 : (x : Side) → T b1 x ≡ T b x
-  T1 = T-restaged b settled (b .m) (b .c)
-
-  P1 : (x : Side) → P b1 x ≡ P b x
-  unfolding P
-  P1 Buy = refl
-  P1 Sell = refl
-
-  G1 : (x : Side) → G b1 x ≡ G b x
-  unfolding G
-  G1 Buy = refl
-  G1 Sell = refl
-
-  came1 : (x : Side) → cameIn b1 x ≡ cameIn b x
-  came1 = came-restaged b settled (b .m) (b .c)
-
-  went1 : (x : Side) → wentOut b1 x ≡ wentOut b x
-  went1 = went-restaged b settled (b .m) (b .c)
-
   round1 : RoundOk settled r b1
   round1 =
       record {
         stage = refl;
-        total = λ x. rOk .total x ∙ sym (T1 x);
-        paid = λ x. rOk .paid x ∙ sym (P1 x);
-        got = λ x. rOk .got x ∙ sym (G1 x);
-        held = λ x. omega (arith, rOk .held x, came1 x, went1 x);
+        total = rOk .total;
+        paid = rOk .paid;
+        got = rOk .got;
+        held = rOk .held;
         marks = rOk .marks;
         marks-small = rOk .marks-small;
-        within = λ x. omega (arith, rOk .within x, P1 x, T1 x);
-        empty = λ x e. G1 x ∙ rOk .empty x (sym (T1 x) ∙ e);
-        rate = λ x. rw (P1 x, G1 x) (rOk .rate x);
+        within = rOk .within;
+        empty = rOk .empty;
+        rate = rOk .rate;
         parts = λ k l. part-early auctioning (λ e. e) (r .hi .0) (r .lo .0) b settled b1 (b .part k) (rOk .parts k l);
         terms = rOk .terms;
-        small-total = λ x. omega (arith, T1 x, rOk .small-total x);
-        small-got = λ x. omega (arith, G1 x, rOk .small-got x);
+        small-total = rOk .small-total;
+        small-got = rOk .small-got;
       }
-
-  holdsOf1 : (u : ℕ) → holdsOf mk b1 u ≡ holdsOf mk b u
-  holdsOf1 = holdsOf-restaged b settled (b .m) (b .c) mk
 
   goes-on : Inv (withBlock (withPhase h mk (Paying r)) at) (withRound y mk (running b1))
   goes-on =
       phase-keeps h y i mk at pos lt4 (Paying r) (running b1) round1
-      (λ j hj. sym (ap (λ (v : Current). atWork (partIn v j)) er))
-      (λ u. holdsOf1 u ∙ sym (ap (λ (v : Current). currentHolds mk v u) er))
+      (λ j hj. ap (λ (v : Current). unclaimed (partIn v j)) er)
+      (λ u. sym (ap (λ (v : Current). currentHolds mk v u) er))
 
   -- no ticket waits: the round had none, and holds nothing
   module _ (last : waitingCount b1 ≡ 0) where
     no-part : (k : ℕ) → k < 64 → b .part k ≡ absent
     no-part k l =
-        absent-is auctioning (λ e. e) (r .hi .0) (r .lo .0) b (b .part k) (rOk .parts k l) (over-work (b .part k) (none-waiting b1 last k l))
+        absent-is auctioning (λ e. e) (r .hi .0) (r .lo .0) b (b .part k) (rOk .parts k l) (not-unclaimed (b .part k) (none-waiting b1 last k l))
 
     no-tickets : ticketCount b1 ≡ 0
-    unfolding ticketCount
     no-tickets = sum-zero 64 _ (λ k l. ap isTicket (no-part k l))
 
     T-zero : (x : Side) → T b x ≡ 0
-    unfolding T
     T-zero x = sum-zero 64 _ (λ k l. ap (offerOn x) (no-part k l))
 
     given-zero : (x : Side) → given b x ≡ 0
-    unfolding G
     given-zero Buy = omega (arith, rOk .empty Sell (T-zero Sell))
     given-zero Sell = omega (arith, rOk .empty Buy (T-zero Buy))
 
     holds-zero : (x : Side) → holds b1 x ≡ 0
-    unfolding holds cameIn
-    holds-zero x = omega (arith, came1 x, T-zero x, given-zero x)
+    holds-zero x = omega (arith, T-zero x, given-zero x)
 
     holdsOf-zero : (u : ℕ) → holdsOf mk b1 u ≡ 0
     holdsOf-zero u = omega (arith, ap (λ v. only 0 v u) (holds-zero Buy), ap (λ v. only mk v u) (holds-zero Sell), only-zero 0 u, only-zero mk u)
 
     into : (u : ℕ) → u < 4 → residue h u ≡ sumOver (putBy u) (record { market = mk; log = b1 } ∷ y .ended)
     unfolding sumOver
-    into u hu = omega (arith, holdsOf-zero u, i .residue-is u hu)
+    into u hu = omega (arith, holdsOf-zero u, i .past .residue-is u hu)
 
     closes : Inv (withBlock (withPhase h mk Closed) at) (withEnd y mk b1)
     closes =
         record {
           sized = sized-block (withPhase h mk Closed) at (sized-phase h mk Closed (i .sized));
-          tickets = i .tickets;
-          orders = i .orders;
-          places =
-              places-round h mk (y .rounds) idle
-              (λ j hj. sym (over-work (b .part j) (none-waiting b1 last j hj)) ∙ sym (ap (λ (v : Current). atWork (partIn v j)) er)) (i .places);
-          markets = markets-set h mk Closed (y .rounds) idle pos (omega (arith, i .sized .markets)) tt (i .markets);
-          conserved =
-              λ u hu. omega (arith, inRounds-set y mk idle pos lt4 u, holdsOf1 u, holdsOf-zero u, ap (λ (v : Current). currentHolds mk v u) er, i .conserved u hu);
-          supplied = i .supplied;
           bounded = i .bounded;
-          accounts = i .accounts;
-          residue-is = into;
-          ended-well =
-              cons
-              (record {
-                pays = round-pays round1;
-                fewer = λ p x. absurd (omega (arith, no-tickets));
-                nothing-put = λ e u. holdsOf-zero u;
-              })
-              (i .ended-well);
-          limits = i .limits;
+          ticket-bounds = i .ticket-bounds;
+          markets = markets-set h mk Closed (y .rounds) idle pos (omega (arith, i .sized .markets)) tt (i .markets);
+          books =
+              record {
+                conserved =
+                    λ u hu. omega (arith, inRounds-set y mk idle pos lt4 u, holdsOf-zero u, ap (λ (v : Current). currentHolds mk v u) er, i .books .conserved u hu);
+                supplied = i .books .supplied;
+                accounts = i .books .accounts;
+              };
+          tickets =
+              tickets-round (i .tickets) mk idle
+              (λ j hj. ap (λ (v : Current). unclaimed (partIn v j)) er ∙ not-unclaimed (b .part j) (none-waiting b1 last j hj));
+          past =
+              record {
+                residue-is = into;
+                ended-well =
+                    cons
+                    (record {
+                      pays = round-pays round1;
+                      fewer = λ p x. absurd (omega (arith, no-tickets));
+                      nothing-put = λ e u. holdsOf-zero u;
+                    })
+                    (i .past .ended-well);
+                limits = i .past .limits;
+              };
         }
 
   settles : Inv (withBlock (withPhase h mk (settledPhase r)) at) (endOrRound y mk b1)

@@ -1,4 +1,6 @@
 pub mod Codes
+pub mod Steps
+pub mod Computing
 pub mod Edges
 pub mod Day
 pub mod Examples
@@ -20,5 +22,3 @@ pub mod Reach
 pub mod ReachClock
 pub mod ReachBounds
 pub mod WindUp
-pub mod OnParts
-pub mod PartBounds

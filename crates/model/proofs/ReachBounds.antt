@@ -2,11 +2,12 @@
 use Prim.Native.Nat.{_+_, _-_, _<_, _≤_, suc, zero, ℕ}
 use mathlib.Core.Path.{_∙_, _≡_, ap, ap₂, refl, subst, sym}
 use native.Mathlib.Omega.{arith}
-use Rattle.model.specs.Bounds.{AuctionBounds, ClaimBounds, CollectBounds, OrderBounds, PhaseBounds, ReachableBounded, RoundBounds, TicketBounds, gotIn, heldIn, heldOf, shareIn}
-use Rattle.model.specs.History.{Current, G, History, P, Part, RoundLog, Stage, absent, auctioning, cameIn, claimed, collecting, holds, idle, isWaiting, logOf, movedOut, running, taken, waiting, wentOut}
+use Rattle.model.specs.Calls.{gotIn, shareIn}
+use Rattle.model.specs.Bounds.{AuctionBounds, ClaimBounds, CollectBounds, OrderBounds, PhaseBounds, ReachableBounded, RoundBounds, TicketBounds, heldIn, heldOf}
+use Rattle.model.specs.History.{Current, History, Part, RoundLog, Stage, absent, auctioning, claimed, collecting, holds, idle, isWaiting, logOf, running, taken, waiting, wentOut, whenSame}
 use Rattle.model.specs.Sides.{other}
 use Rattle.model.specs.State.{balance, isClosed, phase, residue, roundIn, supply, ticket, totalsOf}
-use Rattle.model.specs.WholeRun.{atWork, currentHolds, enteredIn, holdsOf, orderWith, partIn, resting, restingIn, restingTotal, roundsTotal}
+use Rattle.model.specs.WholeRun.{currentHolds, enteredIn, holdsOf, orderWith, partIn, resting, restingIn, restingTotal, roundsTotal, unclaimed}
 use Rattle.model.specs.declared.state.Exchange.{Exchange}
 use Rattle.model.specs.declared.state.Order.{Order}
 use Rattle.model.specs.declared.state.Phase.{Phase}
@@ -19,7 +20,7 @@ use Rattle.pricing.specs.declared.Side.the-variants.{Buy, Sell}
 use Rattle.ticket_set.specs.TicketSet.{bit}
 use Rattle.units.specs.Sums.{only}
 use Rattle.ledger.proofs.Laws.{balance-le-total}
-use Rattle.model.proofs.Inv.{Inv, MarketOk, Quiet, RoundOk, running-is}
+use Rattle.model.proofs.Inv.{Inv, MarketOk, Quiet, RoundOk, in-supply, running-is}
 use Rattle.model.proofs.KeepsClaim.{moved-le, offer-le, part-is, rOk, s-le}
 use Rattle.model.proofs.Reach.{reachable-inv}
 use Rattle.model.proofs.ReachClock.{reachable-clock}
@@ -30,7 +31,6 @@ use Rattle.units.proofs.Sums.{only-zero, term-le}
 
 -- what a round holds, by state and by history
 held-is : {g : Stage} {r : Round} {b : RoundLog} → RoundOk g r b → (x : Side) → holds b x ≡ heldIn r x
-unfolding holds
 held-is k x = omega (arith, k .held x)
 
 heldOf-is : (n t : ℕ) {g : Stage} {r : Round} {b : RoundLog} → RoundOk g r b → heldOf n r t ≡ holdsOf n b t
@@ -70,7 +70,6 @@ round-bounds k =
     }
 
 collect-bounds : {r : Round} {b : RoundLog} → RoundOk collecting r b → Quiet b → CollectBounds r
-unfolding cameIn P G
 collect-bounds {r} {b} k q =
     record {
       held = λ x. omega (arith, k .held x, k .total x, went-zero collecting (λ e. e) (r .hi .0) (r .lo .0) b (k .parts) x, q .taken-zero x, q .given-zero x);
@@ -80,11 +79,9 @@ collect-bounds {r} {b} k q =
 
 -- in auction, one side at a time
 unsold-side : (r : Round) (b : RoundLog) → RoundOk auctioning r b → (x : Side) → wentOut b x ≡ taken b x → totalsOf r x .total .0 ≤ totalsOf r x .paid .0 + heldIn r x
-unfolding cameIn P
 unsold-side r b k x w = omega (arith, k .held x, k .total x, k .paid x)
 
 got-side : (r : Round) (b : RoundLog) → RoundOk auctioning r b → (x : Side) → wentOut b (other x) ≡ taken b (other x) → totalsOf r x .got .0 ≤ heldIn r (other x)
-unfolding cameIn P G
 got-side r b k x w = omega (arith, k .held (other x), k .got x, k .within (other x))
 
 auction-bounds : {r : Round} {b : RoundLog} → RoundOk auctioning r b → AuctionBounds r
@@ -121,40 +118,40 @@ marks-in (Auction r) (running b) m k l = m .marks k l
 marks-in (Paying r) idle m k l = absurd m
 marks-in (Paying r) (running b) m k l = m .marks k l
 
-not-waiting : (q : Part) → atWork q ≡ absent → isWaiting q ≡ 0
+not-waiting : (q : Part) → unclaimed q ≡ absent → isWaiting q ≡ 0
 not-waiting absent e = refl
-not-waiting (waiting m x l n) e = absurd (let z : _≡_ {A = ℕ} 0 1 = cc in omega arith)
-not-waiting (claimed m x l n s g) e = refl
+not-waiting (waiting terms n) e = absurd (let z : _≡_ {A = ℕ} 0 1 = cc in omega arith)
+not-waiting (claimed terms n s got) e = refl
 
 -- what a claim moves out of its own side's token and out of the other's
-refund-of : (side : Side) (m limit n s got : ℕ) → n - s ≤ movedOut side (claimed m side limit n s got)
-refund-of Buy m limit n s got = omega arith
-refund-of Sell m limit n s got = omega arith
+refund-of : (side : Side) (a b : ℕ) → a ≤ whenSame side side a + whenSame (other side) side b
+refund-of Buy a b = omega arith
+refund-of Sell a b = omega arith
 
-payment-of : (side : Side) (m limit n s got : ℕ) → got ≤ movedOut (other side) (claimed m side limit n s got)
-payment-of Buy m limit n s got = omega arith
-payment-of Sell m limit n s got = omega arith
+payment-of : (side : Side) (a b : ℕ) → b ≤ whenSame (other side) side a + whenSame (other (other side)) side b
+payment-of Buy a b = omega arith
+payment-of Sell a b = omega arith
 
 -- a ticket whose part waits in a market's round is entered with an order of that market
-order-of : (t : TicketState) (mk : ℕ) (p : Part) → isWaiting p ≡ 1 → atWork p ≡ enteredIn t mk → (o : Order) × (o .market ≡ mk) × (t ≡ Entered o)
+order-of : (t : TicketState) (mk : ℕ) (p : Part) → isWaiting p ≡ 1 → enteredIn t mk ≡ unclaimed p → (o : Order) × (o .market ≡ mk) × (t ≡ Entered o)
 order-of t mk absent w e = absurd (omega arith)
-order-of t mk (waiting m x l o) w e = (orderWith m mk x l o, refl, entered-of t m mk x l o (sym e))
-order-of t mk (claimed m x l o s got) w e = absurd (omega arith)
+order-of t mk (waiting terms o) w e = (orderWith terms mk o, refl, entered-of t terms mk o e)
+order-of t mk (claimed terms o s got) w e = absurd (omega arith)
 
 module _ (x : Exchange) (y : History) (i : Inv x y) where
   pub marked-order : (n : ℕ) → 0 < n → n < 4 → (k : ℕ) → k < 64 → bit (roundIn (phase x n) .tickets) k ≡ 1 → (o : Order) × (o .market ≡ n) × (ticket x k ≡ Entered o)
   marked-order n p q k l e =
-      order-of (ticket x k) n (partIn (y .rounds n) k) (sym (marks-in (phase x n) (y .rounds n) (i .markets n p q) k l) ∙ e) (i .places k l n p q)
+      order-of (ticket x k) n (partIn (y .rounds n) k) (sym (marks-in (phase x n) (y .rounds n) (i .markets n p q) k l) ∙ e) (i .tickets .places-are k l n p q)
 
   rests1 : (k : ℕ) → k < 64 → (o : Order) → ticket x k ≡ Resting o → bit (roundIn (phase x (o .market)) .tickets) k ≡ 0
   rests1 k l o e =
-      let ok : OrderBounds o = subst TicketBounds e (i .tickets k l) in
+      let ok : OrderBounds o = subst TicketBounds e (i .ticket-bounds k l) in
       marks-in (phase x (o .market)) (y .rounds (o .market)) (i .markets (o .market) (ok .market-low) (ok .market-high)) k l
-      ∙ not-waiting (partIn (y .rounds (o .market)) k) (i .places k l (o .market) (ok .market-low) (ok .market-high) ∙ ap (λ t. enteredIn t (o .market)) e)
+      ∙ not-waiting (partIn (y .rounds (o .market)) k) (sym (i .tickets .places-are k l (o .market) (ok .market-low) (ok .market-high)) ∙ ap (λ t. enteredIn t (o .market)) e)
 
   claims1 : (k : ℕ) → k < 64 → (o : Order) (r : Round) → ticket x k ≡ Entered o → phase x (o .market) ≡ Paying r → ClaimBounds r k o (shareIn r o) (gotIn r o)
   claims1 k l o r et ep =
-      let ok : OrderBounds o = subst TicketBounds et (i .tickets k l) in
+      let ok : OrderBounds o = subst TicketBounds et (i .ticket-bounds k l) in
       let b : RoundLog = logOf (y .rounds (o .market)) in
       let er : y .rounds (o .market) ≡ running b =
       running-is (phase x (o .market)) (y .rounds (o .market)) (ap isClosed ep) (i .markets (o .market) (ok .market-low) (ok .market-high)) in
@@ -164,8 +161,8 @@ module _ (x : Exchange) (y : History) (i : Inv x y) where
         member = rk .marks k l ∙ ap isWaiting (part-is x y i k l o r b et ep er);
         offer = omega (arith, rk .total (o .side), offer-le x y i k l o r b et ep er);
         paid = s-le x y i k l o r b et ep er;
-        refund = omega (arith, mv (o .side), refund-of (o .side) (o .member) (o .limit .0) (o .offer .0) (shareIn r o) (gotIn r o));
-        payment = omega (arith, mv (other (o .side)), payment-of (o .side) (o .member) (o .limit .0) (o .offer .0) (shareIn r o) (gotIn r o));
+        refund = omega (arith, mv (o .side), refund-of (o .side) (o .offer .0 - shareIn r o) (gotIn r o));
+        payment = omega (arith, mv (other (o .side)), payment-of (o .side) (o .offer .0 - shareIn r o) (gotIn r o));
       }
 
   within1 : (m k n t : ℕ) → m < 16 → k < 64 → 0 < n → n < 4 → t < 4
@@ -177,7 +174,7 @@ module _ (x : Exchange) (y : History) (i : Inv x y) where
         resting-le x k t hk,
         heldOf-phase n t (phase x n) (y .rounds n) (i .markets n pn ln),
         round-le (y .rounds) n t pn ln,
-        i .conserved t lt,
+        in-supply i t lt,
       )
 
 pub reachable-bounded : ReachableBounded
@@ -193,7 +190,7 @@ reachable-bounded x l =
       markets = i .sized .markets;
       within = within1 x y i;
       small = i .bounded;
-      ticket-bounds = i .tickets;
+      ticket-bounds = i .ticket-bounds;
       phase-bounds = λ n p q. phase-ok (phase x n) (y .rounds n) (i .markets n p q);
       rests = rests1 x y i;
       marked = marked-order x y i;

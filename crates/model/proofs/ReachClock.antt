@@ -1,7 +1,6 @@
 -- A round's blocks are not after the last block accepted, in every state that calls can leave.
 use Prim.Native.Nat.{_-_, _<_, _≤_, ℕ}
 use mathlib.Core.Bool.{Bool, cond, false, true}
-use mathlib.Core.List.{List}
 use mathlib.Core.Path.{_∙_, _≡_, refl, subst, sym}
 use native.Mathlib.Decide.{ℕ-discrete}
 use native.Mathlib.Nat.{le-refl}
@@ -9,14 +8,13 @@ use native.Mathlib.Omega.{arith}
 use lib.Dec.{eqb}
 use lib.ListN.{length}
 use borrow.Author.Tests.{ltb-false, not-false}
-use Rattle.model.specs.Bounds.{OrderBounds, TicketBounds, gotIn, shareIn}
-use Rattle.model.specs.Calls.{bidDone, bidOf, bidQuote, bidRound, bidTests, cancelDone, cancelOf, cancelTests, claimDone, claimOf, claimTests, claimedRound, depositDone, depositOf, depositTests, enterDone, enterOf, enterTests, matchDone, matchOf, matchTests, openDone, openOf, openTests, openedRound, orderDone, orderOf, orderTests, payingOrClosed, refuse, settleDone, settleOf, settleTests, settledPhase, withdrawDone, withdrawOf, withdrawTests}
+use Rattle.model.specs.Bounds.{OrderBounds, TicketBounds}
+use Rattle.model.specs.Calls.{bidQuote, bidRound, claimedRound, doneOf, openedRound, payingOrClosed, settledPhase, testsOf, gotIn, shareIn}
 use Rattle.model.specs.History.{History}
 use Rattle.model.specs.Run.{Reachable, after-call, at-first, stepOf}
 use Rattle.model.specs.Sides.{gives, offered, sideOf, takes, wanted}
 use Rattle.model.specs.State.{blankRound, credit, debit, isEntered, lastBlock, orderIn, phase, restingOr, roundIn, ticket, toResidue, withPhase, withTicket}
 use Rattle.model.specs.declared.answer.Outcome.{Outcome}
-use Rattle.model.specs.declared.answer.Refusal.{Refusal}
 use Rattle.model.specs.declared.call.Call.{Call}
 use Rattle.model.specs.declared.state.Exchange.{Exchange}
 use Rattle.model.specs.declared.state.Order.{Order}
@@ -25,13 +23,13 @@ use Rattle.model.specs.declared.state.Phase.the-variants.{Auction, Close
 use Rattle.model.specs.declared.state.Round.{Round}
 use Rattle.pricing.specs.declared.Side.{Side}
 use Rattle.ticket_set.specs.TicketSet.{countOf}
-use Rattle.units.specs.Decide.{Test, decide}
 use Rattle.model.proofs.Frames.{inside}
 use Rattle.model.proofs.Inv.{Inv, entered-is, resting-is}
 use Rattle.model.proofs.Reach.{reachable-inv}
 use Rattle.model.proofs.Reading.{phase-other, phase-same}
+use Rattle.model.proofs.Steps.{step-apart}
 use Rattle.model.proofs.WholeRun.{fresh-phase}
-use Rattle.units.proofs.Decide.{Passed, decided}
+use Rattle.units.proofs.Decide.{Passed}
 use Rattle.model.specs.declared.call.Call.the-variants as Call
 
 pub record Past (r : Round) (b : ℕ) : Type 0 where
@@ -59,9 +57,6 @@ clock-set h g mk b p k same pos lm l q n pn ln = go (ℕ-discrete n mk)
     go (no d) =
         subst (λ (v : Phase). Past (roundIn v) b) (sym (phase-other g mk p n d ∙ same n)) (later l (k .past n pn ln))
 
-by-tests : (h : Exchange) (ts : List (Test Refusal)) (out : Outcome) → Clock h → (Passed ts → Clock (out .exchange)) → Clock (decide ts (refuse h) out .exchange)
-by-tests h ts out k done = decided (refuse h) out (λ (o : Outcome). Clock (o .exchange)) ts (λ r. k) done
-
 -- a settle or a claim leaves the round as it was opened, or closes the market
 closing : (t : Bool) (r : Round) (b : ℕ) → Past r b → Past (roundIn (cond t Closed (Paying r))) b
 closing true r b q = nought b
@@ -82,64 +77,54 @@ module _ (h : Exchange) (y : History) (i : Inv h y) (k : Clock h) where
   size : (mk : ℕ) → mk < 4 → mk ≤ length (h .markets)
   size mk l = omega (arith, i .sized .markets)
 
-  step-clock : (c : Call) → Clock (stepOf h c .exchange)
-  unfolding stepOf depositOf withdrawOf orderOf cancelOf openOf enterOf matchOf bidOf settleOf claimOf
-  step-clock (Call.Deposit m t n) = by-tests h (depositTests h m t n) (depositDone h m t n) k (λ p. record { past = k .past })
-  step-clock (Call.Withdraw m t n) = by-tests h (withdrawTests h m t n) (withdrawDone h m t n) k (λ p. record { past = k .past })
-  step-clock (Call.Order a m mk sd lim n) = by-tests h (orderTests h a m mk sd lim n) (orderDone h a m mk sd lim n) k (λ p. record { past = k .past })
-  step-clock (Call.Cancel a m) = by-tests h (cancelTests h a m) (cancelDone h a) k (λ p. record { past = k .past })
-  step-clock (Call.Open mk at r w len) =
-      by-tests h (openTests h mk at r w len) (openDone h mk at r w len) k
-      (λ p.
+  done-clock : (c : Call) → Passed (testsOf h c) → Clock (doneOf h c .exchange)
+  done-clock (Call.Deposit m t n) p = record { past = k .past }
+  done-clock (Call.Withdraw m t n) p = record { past = k .past }
+  done-clock (Call.Order a m mk sd lim n) p = record { past = k .past }
+  done-clock (Call.Cancel a m) p = record { past = k .past }
+  done-clock (Call.Open mk at r w len) p =
       let r3 = inside mk 1 3 (p .0) in
       let l : lastBlock h ≤ at = ltb-false at (lastBlock h) (p .1 .1 .1 .0) in
-      record { past = clock-set h h mk at (Collect (openedRound at r w len)) k (λ n. refl) (omega arith) (size mk (omega arith)) l (record { opened = le-refl at; start = omega arith }) })
-  step-clock (Call.Enter a) =
-      by-tests h (enterTests h a) (enterDone h a) k
-      (λ p.
+      record { past = clock-set h h mk at (Collect (openedRound at r w len)) k (λ n. refl) (omega arith) (size mk (omega arith)) l (record { opened = le-refl at; start = omega arith }) }
+  done-clock (Call.Enter a) p =
       let ha : a < 64 = omega (arith, ltb-false 63 a (p .0)) in
       let o : Order = orderIn (ticket h a) in
-      let ok : OrderBounds o = subst TicketBounds (resting-is (ticket h a) (p .1 .0) (p .1 .1 .0)) (i .tickets a ha) in
+      let ok : OrderBounds o = subst TicketBounds (resting-is (ticket h a) (p .1 .0) (p .1 .1 .0)) (i .ticket-bounds a ha) in
       let q = k .past (o .market) (ok .market-low) (ok .market-high) in
-      record { past = clock-set h h (o .market) (lastBlock h) _ k (λ n. refl) (ok .market-low) (size (o .market) (ok .market-high)) (le-refl (lastBlock h)) (record { opened = q .opened; start = q .start }) })
-  step-clock (Call.Match mk at) =
-      by-tests h (matchTests h mk at) (matchDone h mk at) k
-      (λ p.
+      record { past = clock-set h h (o .market) (lastBlock h) _ k (λ n. refl) (ok .market-low) (size (o .market) (ok .market-high)) (le-refl (lastBlock h)) (record { opened = q .opened; start = q .start }) }
+  done-clock (Call.Match mk at) p =
       let r3 = inside mk 1 3 (p .0) in
       let l : lastBlock h ≤ at = ltb-false at (lastBlock h) (p .1 .1 .0) in
       let q = k .past mk (omega arith) (omega arith) in
-      record { past = clock-set h h mk at _ k (λ n. refl) (omega arith) (size mk (omega arith)) l (record { opened = omega (arith, q .opened); start = le-refl at }) })
-  step-clock (Call.Bid mk m at sd n bound) =
-      by-tests h (bidTests h mk m at sd n bound) (bidDone h mk m at sd n) k
-      (λ p.
+      record { past = clock-set h h mk at _ k (λ n. refl) (omega arith) (size mk (omega arith)) l (record { opened = omega (arith, q .opened); start = le-refl at }) }
+  done-clock (Call.Bid mk m at sd n bound) p =
       let r3 = inside mk 1 3 (p .1 .0) in
       let l : lastBlock h ≤ at = ltb-false at (lastBlock h) (p .1 .1 .1 .1 .1 .0) in
       let r : Round = roundIn (phase h mk) in
       let x : Side = sideOf sd in
       let qt : ℕ = bidQuote r x at n in
       let q = k .past mk (omega arith) (omega arith) in
-      record { past = clock-set h (credit (debit h m (wanted x mk) (gives x n qt)) m (offered x mk) (takes x n qt)) mk at (Auction (bidRound r x n qt)) k (λ a. refl) (omega arith) (size mk (omega arith)) l (record { opened = omega (arith, q .opened); start = omega (arith, q .start) }) })
-  step-clock (Call.Settle mk at) =
-      by-tests h (settleTests h mk at) (settleDone h mk at) k
-      (λ p.
+      record { past = clock-set h (credit (debit h m (wanted x mk) (gives x n qt)) m (offered x mk) (takes x n qt)) mk at (Auction (bidRound r x n qt)) k (λ a. refl) (omega arith) (size mk (omega arith)) l (record { opened = omega (arith, q .opened); start = omega (arith, q .start) }) }
+  done-clock (Call.Settle mk at) p =
       let r3 = inside mk 1 3 (p .0) in
       let l : lastBlock h ≤ at = ltb-false at (lastBlock h) (p .1 .1 .0) in
       let r : Round = roundIn (phase h mk) in
       let q = later l (k .past mk (omega arith) (omega arith)) in
-      record { past = clock-set h h mk at (settledPhase r) k (λ n. refl) (omega arith) (size mk (omega arith)) l (closing (eqb (countOf (r .tickets)) 0) r at q) })
-  step-clock (Call.Claim a) =
-      by-tests h (claimTests h a) (claimDone h a) k
-      (λ p.
+      record { past = clock-set h h mk at (settledPhase r) k (λ n. refl) (omega arith) (size mk (omega arith)) l (closing (eqb (countOf (r .tickets)) 0) r at q) }
+  done-clock (Call.Claim a) p =
       let ha : a < 64 = omega (arith, ltb-false 63 a (p .0)) in
       let o : Order = orderIn (ticket h a) in
-      let ok : OrderBounds o = subst TicketBounds (entered-is (ticket h a) (not-false (isEntered (ticket h a)) (p .1 .1 .0))) (i .tickets a ha) in
+      let ok : OrderBounds o = subst TicketBounds (entered-is (ticket h a) (not-false (isEntered (ticket h a)) (p .1 .1 .0))) (i .ticket-bounds a ha) in
       let r : Round = roundIn (phase h (o .market)) in
       let s : ℕ = shareIn r o in
       let got : ℕ = gotIn r o in
       let q = k .past (o .market) (ok .market-low) (ok .market-high) in
       claim-clock h (credit (withTicket h a (restingOr o (o .offer .0 - s))) (o .member) (wanted (o .side) (o .market)) got) (o .market)
       (claimedRound r a (o .side) (o .offer .0 - s) got) k (λ n. refl) refl (ok .market-low) (size (o .market) (ok .market-high))
-      (record { opened = q .opened; start = q .start }))
+      (record { opened = q .opened; start = q .start })
+
+  step-clock : (c : Call) → Clock (stepOf h c .exchange)
+  step-clock c = step-apart h c (λ (out : Outcome). Clock (out .exchange)) (λ r. k) (done-clock c)
 
 pub reachable-clock : {x : Exchange} → Reachable x → Clock x
 reachable-clock at-first = record { past = λ n p l. subst (λ (v : Phase). Past (roundIn v) 0) (sym (fresh-phase n l)) (nought 0) }

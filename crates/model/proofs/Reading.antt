@@ -10,7 +10,7 @@ use borrow.Author.Tests.{eq-eqb, ne-eqb}
 use Rattle.ledger.specs.Balances.{Shaped, balanceIn, credited, debited}
 use Rattle.ledger.specs.declared.Ledger.{Ledger}
 use Rattle.model.specs.History.{Current, History, RoundLog, addedTo, holds, put, withRound}
-use Rattle.model.specs.State.{closedMarket, credit, debit, freeTicket, marketAt, phase, residue, setMarket, supply, ticket, toResidue, withBlock, withLedger, withPhase, withResidue, withSupply, withTicket}
+use Rattle.model.specs.State.{closedMarket, credit, debit, freeTicket, inPhase, marketAt, phase, residue, setLedger, setMarket, supply, ticket, toResidue, withBlock, withPhase, withResidue, withSupply, withTicket}
 use Rattle.model.specs.WholeRun.{currentHolds, holdsOf, inRounds, resting, restingIn, restingTotal, roundsTotal}
 use Rattle.model.specs.declared.state.Exchange.{Exchange}
 use Rattle.model.specs.declared.state.Market.{Market}
@@ -59,7 +59,7 @@ added-same f m t n u = ap (λ (g : ℕ → ℕ). g u) (put-same f m (put (f m) t
 pub added-other : (f : ℕ → ℕ → ℕ) (m t n j u : ℕ) → (j ≡ m → ⊥) → addedTo f m t n j u ≡ f j u
 added-other f m t n j u d = ap (λ (g : ℕ → ℕ). g u) (put-other f m (put (f m) t (f m t + n)) j d)
 
--- a credit, and a debit that the balance covers, told to history as well, keep every member's account
+-- a credit, and a debit that the balance covers, added to history as well, keep every member's account
 module _ (l : Ledger) (c d : ℕ → ℕ → ℕ) (z : Shaped l) (m t n : ℕ) (hm : m < 16) (ht : t < 4)
     (kept : (j : ℕ) → j < 16 → (u : ℕ) → u < 4 → balanceIn l j u + d j u ≡ c j u) where
   pub account-credit : (j : ℕ) → j < 16 → (u : ℕ) → u < 4 → balanceIn (credited l m t n) j u + d j u ≡ addedTo c m t n j u
@@ -105,7 +105,7 @@ pub record Sized (h : Exchange) : Type 0 where
   pub tickets : length (h .tickets) ≡ 64
   pub markets : length (h .markets) ≡ 3
 
-pub sized-ledger : (h : Exchange) (l : Ledger) → Shaped l → Sized h → Sized (withLedger h l)
+pub sized-ledger : (h : Exchange) (l : Ledger) → Shaped l → Sized h → Sized (setLedger h l)
 sized-ledger h l s z = record { shaped = s; supplies = z .supplies; residues = z .residues; tickets = z .tickets; markets = z .markets }
 
 pub sized-credit : (h : Exchange) (m t n : ℕ) → Sized h → Sized (credit h m t n)
@@ -132,7 +132,7 @@ market-length ms (suc i) m = length-set ms i m
 
 pub sized-phase : (h : Exchange) (n : ℕ) (p : Phase) → Sized h → Sized (withPhase h n p)
 sized-phase h n p z =
-    record { shaped = z .shaped; supplies = z .supplies; residues = z .residues; tickets = z .tickets; markets = market-length (h .markets) n (record { phase = p }) ∙ z .markets }
+    record { shaped = z .shaped; supplies = z .supplies; residues = z .residues; tickets = z .tickets; markets = market-length (h .markets) n (inPhase (marketAt (h .markets) n) p) ∙ z .markets }
 
 pub sized-block : (h : Exchange) (n : ℕ) → Sized h → Sized (withBlock h n)
 sized-block h n z =
@@ -156,10 +156,10 @@ market-other ms (suc i) m zero d = refl
 market-other ms (suc i) m (suc j) d = getD-set-other ms i j m closedMarket (λ e. d (ap suc e))
 
 pub phase-same : (h : Exchange) (n : ℕ) (p : Phase) → 0 < n → n ≤ length (h .markets) → phase (withPhase h n p) n ≡ p
-phase-same h n p pos l = ap (λ (m : Market). m .phase) (market-same (h .markets) n (record { phase = p }) pos l)
+phase-same h n p pos l = ap (λ (m : Market). m .phase) (market-same (h .markets) n (inPhase (marketAt (h .markets) n) p) pos l)
 
 pub phase-other : (h : Exchange) (n : ℕ) (p : Phase) (j : ℕ) → (j ≡ n → ⊥) → phase (withPhase h n p) j ≡ phase h j
-phase-other h n p j d = ap (λ (m : Market). m .phase) (market-other (h .markets) n (record { phase = p }) j d)
+phase-other h n p j d = ap (λ (m : Market). m .phase) (market-other (h .markets) n (inPhase (marketAt (h .markets) n) p) j d)
 
 -- ---- supply and residue
 

@@ -1,19 +1,19 @@
 -- A round in history: what one changed part changes, that the round covers what it owes, and what it leaves.
 use Prim.Native.Nat.{_+_, _-_, _<_, _≤_, suc, zero, ℕ}
 use mathlib.Core.Logic.{_⊎_, inl, inr}
-use mathlib.Core.Path.{_∙_, _≡_, ap, ap₂, refl, sym}
+use mathlib.Core.Path.{_∙_, _≡_, ap, refl, sym}
 use native.Mathlib.Nat.{eq-zero-or-pos}
 use native.Mathlib.Omega.{arith}
-use Rattle.model.specs.History.{Current, G, P, Part, RoundLog, Stage, T, absent, cameIn, claimed, holds, isWaiting, movedOut, offerOn, put, running, settled, taken, ticketCount, waiting, waitingCount, wentOut, withPart}
+use Rattle.model.specs.History.{Current, G, P, Part, RoundLog, Stage, T, absent, cameIn, claimed, holds, isWaiting, movedOut, offerOn, put, running, settled, taken, ticketCount, waiting, waitingCount, wentOut, whenSame, withPart}
 use Rattle.model.specs.Sides.{offered, other}
-use Rattle.model.specs.WholeRun.{RoundPays, atWork, currentHolds, holdsOf, roundsTotal}
+use Rattle.model.specs.WholeRun.{RoundPays, unclaimed, currentHolds, holdsOf, roundsTotal}
 use Rattle.model.specs.declared.state.Round.{Round}
 use Rattle.pricing.specs.Prices.{shareGot, sharePaid}
 use Rattle.pricing.specs.declared.Side.{Side}
 use Rattle.pricing.specs.declared.Side.the-variants.{Buy, Sell}
 use Rattle.ticket_set.specs.TicketSet.{bit, countOf}
-use Rattle.units.specs.Sums.{only, sumTo}
-use Rattle.model.proofs.Inv.{ClaimedOk, ClaimsAt, PartOk, RoundOk, claimed-ok}
+use Rattle.units.specs.Sums.{sumTo}
+use Rattle.model.proofs.Inv.{ClaimsAt, PartOk, RoundOk, claimed-ok}
 use Rattle.model.proofs.Reading.{put-each, put-other, put-same}
 use Rattle.model.proofs.SideLaw.{SideLaw, countOn, gotSum, on, on-both, paidSum, side-law}
 use Rattle.pricing.proofs.Shares.{got-none, paid-le-offer, paid-none}
@@ -32,55 +32,13 @@ parts-at f g k q hk =
 
 module _ (b : RoundLog) (k : ℕ) (q : Part) (hk : k < 64) where
   pub T-part : (x : Side) → T (withPart b k q) x + offerOn x (b .part k) ≡ T b x + offerOn x q
-  unfolding T
   T-part x = parts-at (λ j p. offerOn x p) (b .part) k q hk
 
   pub wentOut-part : (x : Side) → wentOut (withPart b k q) x + movedOut x (b .part k) ≡ wentOut b x + movedOut x q
-  unfolding wentOut
-  wentOut-part Buy = omega (arith, parts-at (λ j p. movedOut Buy p) (b .part) k q hk)
-  wentOut-part Sell = omega (arith, parts-at (λ j p. movedOut Sell p) (b .part) k q hk)
-
-  pub P-part : (x : Side) → P (withPart b k q) x ≡ P b x
-  unfolding P
-  P-part Buy = refl
-  P-part Sell = refl
-
-  pub G-part : (x : Side) → G (withPart b k q) x ≡ G b x
-  unfolding G
-  G-part Buy = refl
-  G-part Sell = refl
+  wentOut-part x = omega (arith, parts-at (λ j p. movedOut x p) (b .part) k q hk)
 
   pub cameIn-part : (x : Side) → cameIn (withPart b k q) x + offerOn x (b .part k) ≡ cameIn b x + offerOn x q
-  unfolding cameIn
-  cameIn-part Buy = omega (arith, T-part Buy)
-  cameIn-part Sell = omega (arith, T-part Sell)
-
--- ---- a log at another stage or with another match: the same came in and went out
-
-abbrev pub restaged : RoundLog → Stage → ℕ → ℕ → RoundLog
-restaged b g m c =
-    record { stage = g; part = b .part; m = m; c = c; base0 = b .base0; quote0 = b .quote0; base1 = b .base1; quote1 = b .quote1 }
-
-module _ (b : RoundLog) (g : Stage) (m c : ℕ) where
-  pub T-restaged : (x : Side) → T (restaged b g m c) x ≡ T b x
-  unfolding T
-  T-restaged x = refl
-
-  pub came-restaged : (x : Side) → cameIn (restaged b g m c) x ≡ cameIn b x
-  unfolding cameIn T
-  came-restaged Buy = refl
-  came-restaged Sell = refl
-
-  pub went-restaged : (x : Side) → wentOut (restaged b g m c) x ≡ wentOut b x
-  unfolding wentOut
-  went-restaged Buy = refl
-  went-restaged Sell = refl
-
-  pub holdsOf-restaged : (mk u : ℕ) → holdsOf mk (restaged b g m c) u ≡ holdsOf mk b u
-  unfolding holds
-  holdsOf-restaged mk u =
-      ap₂ (λ p q. only 0 p u + only mk q u)
-      (ap₂ (λ p q. p - q) (came-restaged Buy) (went-restaged Buy)) (ap₂ (λ p q. p - q) (came-restaged Sell) (went-restaged Sell))
+  cameIn-part x = omega (arith, T-part x)
 
 -- ---- what a settled round owes
 
@@ -90,26 +48,27 @@ duePart b x q =
     (offerOn x q - sharePaid (offerOn x q) (P b x) (T b x)) + shareGot (offerOn (other x) q) (G b (other x)) (T b (other x))
 
 -- a claimed part was paid what is due
-due-claimed : (b : RoundLog) (x side : Side) (member limit o s got : ℕ) → ClaimedOk b side o s got
-    → movedOut x (claimed member side limit o s got) ≡ duePart b x (claimed member side limit o s got)
-due-claimed b Buy Buy member limit o s got c = omega (arith, c .s-is, got-none (G b Sell) (T b Sell))
-due-claimed b Buy Sell member limit o s got c = omega (arith, c .got-is)
-due-claimed b Sell Buy member limit o s got c = omega (arith, c .got-is)
-due-claimed b Sell Sell member limit o s got c = omega (arith, c .s-is, got-none (G b Buy) (T b Buy))
-
-due-le : (hi lo : ℕ) (b : RoundLog) (x : Side) (q : Part) → PartOk settled hi lo b q → movedOut x q ≤ duePart b x q
-due-le hi lo b x absent k = omega arith
-due-le hi lo b x (waiting member side limit o) k = omega arith
-due-le hi lo b x (claimed member side limit o s got) k = omega (arith, due-claimed b x side member limit o s got (k .1))
+due-claimed : (b : RoundLog) (x side : Side) (o : ℕ)
+    → whenSame x side (o - sharePaid o (P b side) (T b side)) + whenSame (other x) side (shareGot o (G b side) (T b side))
+    ≡ (whenSame x side o - sharePaid (whenSame x side o) (P b x) (T b x)) + shareGot (whenSame (other x) side o) (G b (other x)) (T b (other x))
+due-claimed b Buy Buy o = omega (arith, got-none (G b Sell) (T b Sell))
+due-claimed b Buy Sell o = omega arith
+due-claimed b Sell Buy o = omega arith
+due-claimed b Sell Sell o = omega (arith, got-none (G b Buy) (T b Buy))
 
 due-eq : (hi lo : ℕ) (b : RoundLog) (x : Side) (q : Part) → PartOk settled hi lo b q → isWaiting q ≡ 0 → movedOut x q ≡ duePart b x q
 due-eq hi lo b x absent k w = omega (arith, got-none (G b (other x)) (T b (other x)))
-due-eq hi lo b x (waiting member side limit o) k w = omega arith
-due-eq hi lo b x (claimed member side limit o s got) k w = due-claimed b x side member limit o s got (k .1)
+due-eq hi lo b x (waiting terms o) k w = omega arith
+due-eq hi lo b x (claimed terms o s got) k w = rw (k .1 .s-is, k .1 .got-is) (due-claimed b x (terms .side) o)
+
+due-le : (hi lo : ℕ) (b : RoundLog) (x : Side) (q : Part) → PartOk settled hi lo b q → movedOut x q ≤ duePart b x q
+due-le hi lo b x absent k = omega arith
+due-le hi lo b x (waiting terms o) k = omega arith
+due-le hi lo b x (claimed terms o s got) k = omega (arith, due-eq hi lo b x (claimed terms o s got) k refl)
 
 -- all that is due, and all that tickets pay, is all that was offered and all that the other side's tickets get
 due-sum : (b : RoundLog) (x : Side) → P b x ≤ T b x → sumTo 64 (λ k. duePart b x (b .part k)) + paidSum b x ≡ T b x + gotSum b (other x)
-unfolding paidSum gotSum T
+unfolding paidSum gotSum
 due-sum b x within =
     let s : ℕ → ℕ = λ k. sharePaid (offerOn x (b .part k)) (P b x) (T b x) in
     let q : ℕ → ℕ = λ k. shareGot (offerOn (other x) (b .part k)) (G b (other x)) (T b (other x)) in
@@ -131,12 +90,10 @@ module _ (hi lo : ℕ) (b : RoundLog) (parts : (k : ℕ) → k < 64 → PartOk s
 
   -- all that is due is covered
   all-due : (x : Side) → sumTo 64 (λ k. duePart b x (b .part k)) + taken b x ≤ cameIn b x
-  unfolding cameIn P G
   all-due Buy = omega (arith, due-sum b Buy (within Buy), law Buy .paid-enough, law Sell .got-within)
   all-due Sell = omega (arith, due-sum b Sell (within Sell), law Sell .paid-enough, law Buy .got-within)
 
   pub covers : (x : Side) → wentOut b x ≤ cameIn b x
-  unfolding wentOut
   covers x =
       omega (
         arith,
@@ -146,14 +103,13 @@ module _ (hi lo : ℕ) (b : RoundLog) (parts : (k : ℕ) → k < 64 → PartOk s
 
   -- the tickets of both sides are all tickets
   counts : (x : Side) → countOn b x + countOn b (other x) ≡ ticketCount b
-  unfolding ticketCount countOn
+  unfolding countOn
   counts x =
       sym (sum-add 64 (λ k. on x (b .part k)) (λ k. on (other x) (b .part k)))
       ∙ sum-ext 64 _ _ (λ k l. on-both x (b .part k))
 
   -- what is left once all that is due is paid is less than the number of tickets
   left-over : (x : Side) → 0 < ticketCount b → cameIn b x < sumTo 64 (λ k. duePart b x (b .part k)) + taken b x + ticketCount b
-  unfolding cameIn P G
   left-over x pos = go x (eq-zero-or-pos (countOn b x)) (eq-zero-or-pos (countOn b (other x)))
     where
       go : (x : Side) → (countOn b x ≡ 0) ⊎ (0 < countOn b x) → (countOn b (other x) ≡ 0) ⊎ (0 < countOn b (other x))
@@ -168,7 +124,6 @@ module _ (hi lo : ℕ) (b : RoundLog) (parts : (k : ℕ) → k < 64 → PartOk s
 
   -- what a round holds when all its tickets are claimed
   pub leaves : ((k : ℕ) → k < 64 → isWaiting (b .part k) ≡ 0) → 0 < ticketCount b → (x : Side) → holds b x < ticketCount b
-  unfolding holds wentOut
   leaves over pos x =
       let e : sumTo 64 (λ k. movedOut x (b .part k)) ≡ sumTo 64 (λ k. duePart b x (b .part k)) =
       sum-ext 64 _ _ (λ k l. due-eq hi lo b x (b .part k) (parts k l) (over k l)) in
@@ -178,11 +133,10 @@ module _ (hi lo : ℕ) (b : RoundLog) (parts : (k : ℕ) → k < 64 → PartOk s
 
 -- the count of set bits is the number of tickets that wait
 pub marks-count : (s : ℕ) (b : RoundLog) → ((k : ℕ) → k < 64 → bit s k ≡ isWaiting (b .part k)) → countOf s ≡ waitingCount b
-unfolding countOf waitingCount
+unfolding countOf
 marks-count s b e = sum-ext 64 _ _ e
 
 pub none-waiting : (b : RoundLog) → waitingCount b ≡ 0 → (k : ℕ) → k < 64 → isWaiting (b .part k) ≡ 0
-unfolding waitingCount
 none-waiting b e k l = zero-terms 64 (λ j. isWaiting (b .part j)) e k l
 
 -- the set after one part changed
@@ -191,36 +145,35 @@ pub marks-part : (s s′ k : ℕ) (b : RoundLog) (q : Part) → bit s′ k ≡ i
 marks-part s s′ k b q here there marks j hj =
     put-each (λ i v. bit s′ i ≡ isWaiting v) (b .part) k q j (λ e. here) (λ d. there j d ∙ marks j hj)
 
--- a part that does not wait is not at work
-pub over-work : (q : Part) → isWaiting q ≡ 0 → atWork q ≡ absent
-over-work absent e = refl
-over-work (waiting member side limit o) e = absurd (omega arith)
-over-work (claimed member side limit o s got) e = refl
+-- a part that does not wait is not unclaimed
+pub not-unclaimed : (q : Part) → isWaiting q ≡ 0 → unclaimed q ≡ absent
+not-unclaimed absent e = refl
+not-unclaimed (waiting terms o) e = absurd (omega arith)
+not-unclaimed (claimed terms o s got) e = refl
 
 -- ---- before claims, nothing has moved out by claims
 
 module _ (g : Stage) (early : ClaimsAt g → ⊥) (hi lo : ℕ) (b : RoundLog) where
   no-claims : (z : Side) (q : Part) → PartOk g hi lo b q → movedOut z q ≡ 0
   no-claims z absent k = refl
-  no-claims z (waiting member side limit o) k = refl
-  no-claims z (claimed member side limit o s got) k = absurd (early (k .0))
+  no-claims z (waiting terms o) k = refl
+  no-claims z (claimed terms o s got) k = absurd (early (k .0))
 
   pub went-zero : ((k : ℕ) → k < 64 → PartOk g hi lo b (b .part k)) → (z : Side) → wentOut b z ≡ taken b z
-  unfolding wentOut
   went-zero ok z =
       omega (arith, sum-zero 64 (λ k. movedOut z (b .part k)) (λ k l. no-claims z (b .part k) (ok k l)))
 
   -- such a part is as right at a later stage, and with other trades
   pub part-early : (g′ : Stage) (b′ : RoundLog) (q : Part) → PartOk g hi lo b q → PartOk g′ hi lo b′ q
   part-early g′ b′ absent k = tt
-  part-early g′ b′ (waiting member side limit o) k = k
-  part-early g′ b′ (claimed member side limit o s got) k = absurd (early (k .0))
+  part-early g′ b′ (waiting terms o) k = k
+  part-early g′ b′ (claimed terms o s got) k = absurd (early (k .0))
 
-  -- and where it is not at work, there is none
-  pub absent-is : (q : Part) → PartOk g hi lo b q → atWork q ≡ absent → q ≡ absent
+  -- and where none is unclaimed, there is none
+  pub absent-is : (q : Part) → PartOk g hi lo b q → unclaimed q ≡ absent → q ≡ absent
   absent-is absent k e = refl
-  absent-is (waiting member side limit o) k e = e
-  absent-is (claimed member side limit o s got) k e = absurd (early (k .0))
+  absent-is (waiting terms o) k e = e
+  absent-is (claimed terms o s got) k e = absurd (early (k .0))
 
 -- what a round holds of a token is within what all rounds hold of it
 pub held-within : (mk : ℕ) (f : ℕ → Current) (b : RoundLog) (x : Side) → 0 < mk → mk < 4 → f mk ≡ running b → holds b x ≤ roundsTotal f (offered x mk)
@@ -241,7 +194,7 @@ round-pays {g} {r} {b} k =
     record {
       covered = λ x. omega (arith, k .held x);
       shares =
-          λ j lj m x l o s got e.
-          let w = claimed-ok g (r .hi .0) (r .lo .0) b (b .part j) (k .parts j lj) m x l o s got e in
+          λ j lj terms o s got e.
+          let w = claimed-ok g (r .hi .0) (r .lo .0) b (b .part j) (k .parts j lj) terms o s got e in
           (w .s-is, w .got-is);
     }

@@ -18,19 +18,24 @@ use Rattle.units.proofs.Sums.{sum-zero, zero-terms}
 -- whether a part is a ticket of side x: 1 or 0
 abbrev pub on : Side → Part → ℕ
 on x absent = 0
-on x (waiting member side limit o) = whenSame x side 1
-on x (claimed member side limit o s got) = whenSame x side 1
+on x (waiting terms o) = whenSame x (terms .side) 1
+on x (claimed terms o s got) = whenSame x (terms .side) 1
+
+same-both : (x z : Side) → whenSame x z 1 + whenSame (other x) z 1 ≡ 1
+same-both Buy Buy = refl
+same-both Buy Sell = refl
+same-both Sell Buy = refl
+same-both Sell Sell = refl
 
 pub on-both : (x : Side) (q : Part) → on x q + on (other x) q ≡ isTicket q
 on-both x absent = refl
-on-both Buy (waiting member Buy limit o) = refl
-on-both Buy (waiting member Sell limit o) = refl
-on-both Sell (waiting member Buy limit o) = refl
-on-both Sell (waiting member Sell limit o) = refl
-on-both Buy (claimed member Buy limit o s got) = refl
-on-both Buy (claimed member Sell limit o s got) = refl
-on-both Sell (claimed member Buy limit o s got) = refl
-on-both Sell (claimed member Sell limit o s got) = refl
+on-both x (waiting terms o) = same-both x (terms .side)
+on-both x (claimed terms o s got) = same-both x (terms .side)
+
+on-le : (x : Side) (q : Part) → on x q ≤ 1
+on-le x absent = omega arith
+on-le x (waiting terms o) = omega (arith, same-both x (terms .side))
+on-le x (claimed terms o s got) = omega (arith, same-both x (terms .side))
 
 -- an offer in front of a list, n times: once or not at all
 abbrev offers : ℕ → ℕ → List ℕ → List ℕ
@@ -43,39 +48,33 @@ offersTo zero x f = []
 offersTo (suc n) x f = offers (on x (f n)) (offerOn x (f n)) (offersTo n x f)
 
 -- a part's own term is that of its offer, where it is on the side, and that of 0 where it is not
-term-of : (F : ℕ → ℕ) → F 0 ≡ 0 → (x : Side) (q : Part) (os : List ℕ) → sumOver F os + F (offerOn x q) ≡ sumOver F (offers (on x q) (offerOn x q) os)
-unfolding sumOver
-term-of F z x absent os = omega (arith, z)
-term-of F z Buy (waiting member Buy limit o) os = omega arith
-term-of F z Buy (waiting member Sell limit o) os = omega (arith, z)
-term-of F z Sell (waiting member Buy limit o) os = omega (arith, z)
-term-of F z Sell (waiting member Sell limit o) os = omega arith
-term-of F z Buy (claimed member Buy limit o s got) os = omega arith
-term-of F z Buy (claimed member Sell limit o s got) os = omega (arith, z)
-term-of F z Sell (claimed member Buy limit o s got) os = omega (arith, z)
-term-of F z Sell (claimed member Sell limit o s got) os = omega arith
+module _ (F : ℕ → ℕ) (z : F 0 ≡ 0) (os : List ℕ) where
+  term-on : (x side : Side) (o : ℕ) → sumOver F os + F (whenSame x side o) ≡ sumOver F (offers (whenSame x side 1) (whenSame x side o) os)
+  unfolding sumOver
+  term-on Buy Buy o = omega arith
+  term-on Buy Sell o = omega (arith, z)
+  term-on Sell Buy o = omega (arith, z)
+  term-on Sell Sell o = omega arith
+
+  term-of : (x : Side) (q : Part) → sumOver F os + F (offerOn x q) ≡ sumOver F (offers (on x q) (offerOn x q) os)
+  term-of x absent = omega (arith, z)
+  term-of x (waiting terms o) = term-on x (terms .side) o
+  term-of x (claimed terms o s got) = term-on x (terms .side) o
 
 pub sum-offers : (F : ℕ → ℕ) → F 0 ≡ 0 → (n : ℕ) (x : Side) (f : ℕ → Part) → sumTo n (λ k. F (offerOn x (f k))) ≡ sumOver F (offersTo n x f)
 unfolding sumTo offersTo sumOver
 sum-offers F z zero x f = refl
 sum-offers F z (suc n) x f =
-    omega (arith, sum-offers F z n x f, term-of F z x (f n) (offersTo n x f))
+    omega (arith, sum-offers F z n x f, term-of F z (offersTo n x f) x (f n))
 
-count-one : (x : Side) (q : Part) (os : List ℕ) → length os + on x q ≡ length (offers (on x q) (offerOn x q) os)
-count-one x absent os = omega arith
-count-one Buy (waiting member Buy limit o) os = omega arith
-count-one Buy (waiting member Sell limit o) os = omega arith
-count-one Sell (waiting member Buy limit o) os = omega arith
-count-one Sell (waiting member Sell limit o) os = omega arith
-count-one Buy (claimed member Buy limit o s got) os = omega arith
-count-one Buy (claimed member Sell limit o s got) os = omega arith
-count-one Sell (claimed member Buy limit o s got) os = omega arith
-count-one Sell (claimed member Sell limit o s got) os = omega arith
+count-one : (n o : ℕ) (os : List ℕ) → n ≤ 1 → length os + n ≡ length (offers n o os)
+count-one zero o os l = omega arith
+count-one (suc n) o os l = omega arith
 
 count-offers : (n : ℕ) (x : Side) (f : ℕ → Part) → sumTo n (λ k. on x (f k)) ≡ length (offersTo n x f)
 unfolding sumTo offersTo
 count-offers zero x f = refl
-count-offers (suc n) x f = omega (arith, count-offers n x f, count-one x (f n) (offersTo n x f))
+count-offers (suc n) x f = omega (arith, count-offers n x f, count-one (on x (f n)) (offerOn x (f n)) (offersTo n x f) (on-le x (f n)))
 
 -- ---- one side of a round
 
@@ -110,7 +109,7 @@ module _ (b : RoundLog) (x : Side) where
   got-list = sum-offers (λ o. shareGot o (G b x) (T b x)) (got-none (G b x) (T b x)) 64 x (b .part)
 
   total-list : sumOver (λ o. o) os ≡ T b x
-  unfolding T os
+  unfolding os
   total-list = sym (sum-offers (λ o. o) refl 64 x (b .part))
 
   count-list : countOn b x ≡ length os
@@ -128,12 +127,12 @@ module _ (b : RoundLog) (x : Side) where
 
   -- without offers nobody pays and nobody gets
   nought-paid : T b x ≡ 0 → paidSum b x ≡ 0
-  unfolding paidSum T
+  unfolding paidSum
   nought-paid e =
       sum-zero 64 _ (λ k l. ap (λ o. sharePaid o (P b x) (T b x)) (zero-terms 64 (λ j. offerOn x (b .part j)) e k l) ∙ paid-none (P b x) (T b x))
 
   nought-got : T b x ≡ 0 → gotSum b x ≡ 0
-  unfolding gotSum T
+  unfolding gotSum
   nought-got e =
       sum-zero 64 _ (λ k l. ap (λ o. shareGot o (G b x) (T b x)) (zero-terms 64 (λ j. offerOn x (b .part j)) e k l) ∙ got-none (G b x) (T b x))
 

@@ -7,14 +7,13 @@ use native.Mathlib.Omega.{arith}
 use lib.Dec.{eqb, ltb}
 use lib.ListN.{getD, getD-replicate, length, replicate}
 use borrow.Author.Tests.{eqb-true, le-ltb}
-use Rattle.model.specs.Answers.{answerLine}
+use Rattle.model.specs.Answers.{answerLine, codeOf}
 use Rattle.model.specs.Bounds.{TicketBounds}
-use Rattle.model.specs.Calls.{bidDone, bidOf, bidTests, cancelDone, cancelOf, cancelTests, claimDone, claimOf, claimTests, claimWith, depositDone, depositOf, depositTests, enterDone, enterOf, enterTests, matchDone, matchOf, matchTests, openDone, openOf, openTests, orderDone, orderOf, orderTests, refuse, settleDone, settleOf, settleTests, withdrawDone, withdrawOf, withdrawTests}
-use Rattle.model.specs.Codes.{doneOf, testsOf}
-use Rattle.model.specs.History.{Current, G, History, P, Part, RoundLog, T, absent, historyFrom, historyOf, idle, noHistory, running, settled, waiting, withEvent}
+use Rattle.model.specs.Calls.{claimWith, doneOf, refuse, testsOf}
+use Rattle.model.specs.History.{Current, History, Part, RoundLog, OrderTerms, absent, historyFrom, historyOf, idle, noHistory, running, settled, waiting, withEvent}
 use Rattle.model.specs.Run.{Request, eventsOf, requestOf, stateAfter, stepOf}
 use Rattle.model.specs.State.{closedMarket, freeTicket, freshExchange, isEntered, isFree, isPaying, orderIn, phase, roundIn, ticket}
-use Rattle.model.specs.WholeRun.{PaysOut, RoundPays, SettledTicket, Whole, WholeRun, atWork, enteredIn, nil, orderWith, partIn, placedIn, putBy, restingIn, restingTotal, roundsTotal}
+use Rattle.model.specs.WholeRun.{PaysOut, RoundPays, SettledTicket, Whole, WholeRun, enteredIn, gotBy, nil, orderWith, paidBy, partIn, placedIn, putBy, restingIn, restingTotal, roundsTotal, termsOf, unclaimed}
 use Rattle.model.specs.declared.answer.Answer.the-variants.{Accepted, Refused}
 use Rattle.model.specs.declared.answer.Outcome.{Outcome}
 use Rattle.model.specs.declared.answer.Refusal.{Refusal}
@@ -29,14 +28,11 @@ use Rattle.model.specs.declared.state.Round.{Round}
 use Rattle.model.specs.declared.state.Ticket.{Ticket}
 use Rattle.model.specs.declared.state.TicketState.{TicketState}
 use Rattle.model.specs.declared.state.TicketState.the-variants.{Entered, Free, Resting}
-use Rattle.pricing.specs.Prices.{shareGot, sharePaid}
-use Rattle.pricing.specs.declared.Side.{Side}
 use Rattle.units.specs.Counts.{amount}
-use Rattle.units.specs.Decide.{Test, decide}
 use Rattle.units.specs.Sums.{sumOver}
 use Rattle.units.specs.declared.Amount.{Amount}
 use Rattle.ledger.proofs.Laws.{fresh-balance, fresh-shaped, fresh-total}
-use Rattle.model.proofs.Codes.{codes-rising}
+use Rattle.model.proofs.Codes.{codes-rising, refusal-code}
 use Rattle.model.proofs.Inv.{Inv, MarketOk}
 use Rattle.model.proofs.KeepsBid.{bid-keeps}
 use Rattle.model.proofs.KeepsClaim.{claim-keeps, pays, shares-are}
@@ -47,33 +43,30 @@ use Rattle.model.proofs.KeepsOpen.{open-keeps}
 use Rattle.model.proofs.KeepsOrders.{cancel-keeps, order-keeps}
 use Rattle.model.proofs.KeepsSettle.{settle-keeps}
 use Rattle.model.proofs.Rounds.{round-pays}
-use Rattle.units.proofs.Decide.{Passed, decide-passed, decided}
+use Rattle.model.proofs.Steps.{step-apart, step-passed}
+use Rattle.units.proofs.Decide.{Passed}
 use Rattle.units.proofs.Sums.{sum-zero}
 use Rattle.model.specs.declared.call.Call.the-variants as Call
 
 -- ---- every call
 
 -- a refusal leaves state and history; an acceptance keeps the invariant
-Kept : History → Call → Outcome → Type 0
-Kept y c out = Inv (out .exchange) (withEvent y c (out .answer))
-
-by-tests : (h : Exchange) (y : History) (c : Call) (ts : List (Test Refusal)) (out : Outcome) → Inv h y
-    → (Passed ts → Inv (out .exchange) (withEvent y c (out .answer))) → Inv (decide ts (refuse h) out .exchange) (withEvent y c (decide ts (refuse h) out .answer))
-unfolding Kept withEvent
-by-tests h y c ts out i done = decided (refuse h) out (Kept y c) ts (λ r. i) done
+done-keeps : (h : Exchange) (y : History) → Inv h y → (c : Call) → Passed (testsOf h c) → Inv (doneOf h c .exchange) (withEvent y c (doneOf h c .answer))
+unfolding withEvent
+done-keeps h y i (Call.Deposit m t n) p = deposit-keeps h y m t n _ _ i p
+done-keeps h y i (Call.Withdraw m t n) p = withdraw-keeps h y m t n _ _ i p
+done-keeps h y i (Call.Order k m mk sd lim n) p = order-keeps h y k m mk sd lim n i p
+done-keeps h y i (Call.Cancel k m) p = cancel-keeps h y k m i p
+done-keeps h y i (Call.Open mk at r w len) p = open-keeps h y mk at r w len i p
+done-keeps h y i (Call.Enter k) p = enter-keeps h y k i p
+done-keeps h y i (Call.Match mk at) p = match-keeps h y mk at i p
+done-keeps h y i (Call.Bid mk m at sd n bound) p = bid-keeps h y mk m at sd n bound i p
+done-keeps h y i (Call.Settle mk at) p = settle-keeps h y mk at i p
+done-keeps h y i (Call.Claim k) p = claim-keeps h y k i p
 
 pub step-keeps : (h : Exchange) (y : History) → Inv h y → (c : Call) → Inv (stepOf h c .exchange) (withEvent y c (stepOf h c .answer))
-unfolding stepOf depositOf withdrawOf orderOf cancelOf openOf enterOf matchOf bidOf settleOf claimOf withEvent
-step-keeps h y i (Call.Deposit m t n) = by-tests h y (Call.Deposit m t n) (depositTests h m t n) (depositDone h m t n) i (λ p. deposit-keeps h y m t n _ _ i p)
-step-keeps h y i (Call.Withdraw m t n) = by-tests h y (Call.Withdraw m t n) (withdrawTests h m t n) (withdrawDone h m t n) i (λ p. withdraw-keeps h y m t n _ _ i p)
-step-keeps h y i (Call.Order k m mk sd lim n) = by-tests h y (Call.Order k m mk sd lim n) (orderTests h k m mk sd lim n) (orderDone h k m mk sd lim n) i (λ p. order-keeps h y k m mk sd lim n i p)
-step-keeps h y i (Call.Cancel k m) = by-tests h y (Call.Cancel k m) (cancelTests h k m) (cancelDone h k) i (λ p. cancel-keeps h y k m i p)
-step-keeps h y i (Call.Open mk at r w len) = by-tests h y (Call.Open mk at r w len) (openTests h mk at r w len) (openDone h mk at r w len) i (λ p. open-keeps h y mk at r w len i p)
-step-keeps h y i (Call.Enter k) = by-tests h y (Call.Enter k) (enterTests h k) (enterDone h k) i (λ p. enter-keeps h y k i p)
-step-keeps h y i (Call.Match mk at) = by-tests h y (Call.Match mk at) (matchTests h mk at) (matchDone h mk at) i (λ p. match-keeps h y mk at i p)
-step-keeps h y i (Call.Bid mk m at sd n bound) = by-tests h y (Call.Bid mk m at sd n bound) (bidTests h mk m at sd n bound) (bidDone h mk m at sd n) i (λ p. bid-keeps h y mk m at sd n bound i p)
-step-keeps h y i (Call.Settle mk at) = by-tests h y (Call.Settle mk at) (settleTests h mk at) (settleDone h mk at) i (λ p. settle-keeps h y mk at i p)
-step-keeps h y i (Call.Claim k) = by-tests h y (Call.Claim k) (claimTests h k) (claimDone h k) i (λ p. claim-keeps h y k i p)
+unfolding withEvent
+step-keeps h y i c = step-apart h c (λ (out : Outcome). Inv (out .exchange) (withEvent y c (out .answer))) (λ r. i) (done-keeps h y i c)
 
 request-keeps : (h : Exchange) (y : History) → Inv h y → (q : Request) → Inv (requestOf h q .exchange) (withEvent y (q .call) (requestOf h q .answer))
 unfolding requestOf withEvent
@@ -116,17 +109,21 @@ pub fresh-inv : Inv freshExchange noHistory
 fresh-inv =
     record {
       sized = record { shaped = fresh-shaped; supplies = refl; residues = refl; tickets = refl; markets = refl };
-      tickets = λ k l. subst TicketBounds (sym (fresh-ticket k l)) tt;
-      orders = λ k l. sym (ap placedIn (fresh-ticket k l));
-      places = λ k l n p q. sym (ap (λ s. enteredIn s n) (fresh-ticket k l));
-      markets = λ n p l. subst (λ (v : Phase). MarketOk v idle) (sym (fresh-phase n l)) tt;
-      conserved = λ t l. omega (arith, fresh-total t l, fresh-resting t, fresh-rounds t, zeros t l);
-      supplied = λ t l. omega (arith, zeros t l);
       bounded = λ t l. omega (arith, zeros t l);
-      accounts = λ m lm t lt. omega (arith, fresh-balance m t lm lt);
-      residue-is = λ t l. zeros t l ∙ sym (put-nothing t);
-      ended-well = nil;
-      limits = nil;
+      ticket-bounds = λ k l. subst TicketBounds (sym (fresh-ticket k l)) tt;
+      markets = λ n p l. subst (λ (v : Phase). MarketOk v idle) (sym (fresh-phase n l)) tt;
+      books =
+          record {
+            conserved = λ t l. omega (arith, fresh-total t l, fresh-resting t, fresh-rounds t, zeros t l);
+            supplied = λ t l. omega (arith, zeros t l);
+            accounts = λ m lm t lt. omega (arith, fresh-balance m t lm lt);
+          };
+      tickets =
+          record {
+            tickets-are = λ k l. ap placedIn (fresh-ticket k l);
+            places-are = λ k l n p q. ap (λ s. enteredIn s n) (fresh-ticket k l);
+          };
+      past = record { residue-is = λ t l. zeros t l ∙ sym (put-nothing t); ended-well = nil; limits = nil };
     }
 
 -- ---- the statement from the invariant
@@ -146,9 +143,8 @@ paying-round (Paying r) b k e = refl
 module _ (h : Exchange) (k : ℕ) (hk : k < 64) (o : Order) (r : Round) (et : ticket h k ≡ Entered o) (ep : phase h (o .market) ≡ Paying r) where
   -- a claim that no test stops
   pub claim-passes : stepOf h (Call.Claim k) ≡ claimWith h k o r
-  unfolding stepOf claimOf
   claim-passes =
-      decide-passed (refuse h) (claimDone h k) (claimTests h k) (
+      step-passed h (Call.Claim k) (
         le-ltb 63 k (omega arith),
         (
           ap isFree et,
@@ -168,47 +164,42 @@ module _ (h : Exchange) (k : ℕ) (hk : k < 64) (o : Order) (r : Round) (et : ti
       ap (λ (out : Outcome). cond (ltb room (length (answerLine line (out .answer)))) (refuse h BufferTooShort) out) claim-passes
       ∙ ap (λ (q : Bool). cond q (refuse h BufferTooShort) (claimWith h k o r)) (le-ltb room (length (answerLine line (claimWith h k o r .answer))) l)
 
-same-order : (m m′ mk mk′ : ℕ) (x x′ : Side) (l l′ n n′ : ℕ) → m ≡ m′ → mk ≡ mk′ → x ≡ x′ → l ≡ l′ → n ≡ n′
-    → Entered (orderWith m mk x l n) ≡ Entered (orderWith m′ mk′ x′ l′ n′)
-same-order m m′ mk mk′ x x′ l l′ n n′ a b c d e = rw (a, b, c, d, e)
+same-order : (t t′ : OrderTerms) (mk mk′ n n′ : ℕ) → t ≡ t′ → mk ≡ mk′ → n ≡ n′ → Entered (orderWith t mk n) ≡ Entered (orderWith t′ mk′ n′)
+same-order t t′ mk mk′ n n′ a b c = rw (a, b, c)
 
 -- a ticket whose part waits in a market's round is entered there, with that part's order
-pub entered-of : (s : TicketState) (member market : ℕ) (side : Side) (limit o : ℕ) → enteredIn s market ≡ waiting member side limit o
-    → s ≡ Entered (orderWith member market side limit o)
-entered-of Free member market side limit o e = absurd (let z : _≡_ {A = ℕ} 0 1 = cc in omega arith)
-entered-of (Resting d) member market side limit o e = absurd (let z : _≡_ {A = ℕ} 0 1 = cc in omega arith)
-entered-of (Entered d) member market side limit o e = go (eqb market (d .market)) refl e
+pub entered-of : (s : TicketState) (terms : OrderTerms) (market o : ℕ) → enteredIn s market ≡ waiting terms o → s ≡ Entered (orderWith terms market o)
+entered-of Free terms market o e = absurd (let z : _≡_ {A = ℕ} 0 1 = cc in omega arith)
+entered-of (Resting d) terms market o e = absurd (let z : _≡_ {A = ℕ} 0 1 = cc in omega arith)
+entered-of (Entered d) terms market o e = go (eqb market (d .market)) refl e
   where
     own : Part
-    own = waiting (d .member) (d .side) (d .limit .0) (d .offer .0)
+    own = waiting (termsOf d) (d .offer .0)
 
-    go : (q : Bool) → eqb market (d .market) ≡ q → cond (eqb market (d .market)) own absent ≡ waiting member side limit o
-        → Entered d ≡ Entered (orderWith member market side limit o)
+    go : (q : Bool) → eqb market (d .market) ≡ q → cond (eqb market (d .market)) own absent ≡ waiting terms o → Entered d ≡ Entered (orderWith terms market o)
     go true q f =
         let m : market ≡ d .market = eqb-true market (d .market) q in
-        let g : waiting (d .member) (d .side) (d .limit .0) (d .offer .0) ≡ waiting member side limit o = rw q at f in
-        same-order (d .member) member (d .market) market (d .side) side (d .limit .0) limit (d .offer .0) o (cc) (sym m) (cc) (cc) (cc)
+        let g : waiting (termsOf d) (d .offer .0) ≡ waiting terms o = rw q at f in
+        same-order (termsOf d) terms (d .market) market (d .offer .0) o (cc) (sym m) (cc)
     go false q f =
-        let g : absent ≡ waiting member side limit o = rw q at f in
+        let g : absent ≡ waiting terms o = rw q at f in
         absurd (let z : _≡_ {A = ℕ} 0 1 = cc in omega arith)
 
-module _ (h : Exchange) (y : History) (i : Inv h y) (k member market : ℕ) (side : Side) (limit o : ℕ) (b : RoundLog)
-    (st : SettledTicket y k member market side limit o b) where
+module _ (h : Exchange) (y : History) (i : Inv h y) (k : ℕ) (terms : OrderTerms) (market o : ℕ) (b : RoundLog) (st : SettledTicket y k terms market o b) where
   abbrev order : Order
-  order = orderWith member market side limit o
+  order = orderWith terms market o
 
   entered : ticket h k ≡ Entered order
   entered =
-      entered-of (ticket h k) member market side limit o
-      (sym (i .places k (st .ticket-range) market (st .market-low) (st .market-high))
-      ∙ ap (λ (c : Current). atWork (partIn c k)) (st .round) ∙ ap atWork (st .part))
+      entered-of (ticket h k) terms market o
+      (i .tickets .places-are k (st .ticket-range) market (st .market-low) (st .market-high)
+      ∙ ap (λ (c : Current). unclaimed (partIn c k)) (st .round) ∙ ap unclaimed (st .part))
 
   paying : phase h market ≡ Paying (roundIn (phase h market))
   paying = paying-round (phase h market) b (subst (MarketOk (phase h market)) (st .round) (i .markets market (st .market-low) (st .market-high))) (st .stage)
 
-  claim-pays : (line room : ℕ) → length (answerLine line (Accepted (sharePaid o (P b side) (T b side)) (shareGot o (G b side) (T b side)))) ≤ room
-      → PaysOut h k order (sharePaid o (P b side) (T b side)) (shareGot o (G b side) (T b side))
-      (requestOf h (record { line = line; room = room; call = Call.Claim k }))
+  claim-pays : (line room : ℕ) → length (answerLine line (Accepted (paidBy b terms o) (gotBy b terms o))) ≤ room
+      → PaysOut h k order (paidBy b terms o) (gotBy b terms o) (requestOf h (record { line = line; room = room; call = Call.Claim k }))
   claim-pays line room =
       let r : Round = roundIn (phase h market) in
       let sh = shares-are h y i k (st .ticket-range) order r b entered paying (st .round) in
@@ -225,26 +216,11 @@ module _ (h : Exchange) (y : History) (i : Inv h y) (k member market : ℕ) (sid
 Leaves : Exchange → Outcome → Type 0
 Leaves h out = (why : Refusal) → out .answer ≡ Refused why → out .exchange ≡ h
 
-accepts : (a b : ℕ) (why : Refusal) → Accepted a b ≡ Refused why → ⊥
-accepts a b why e = let z : _≡_ {A = ℕ} 0 1 = cc in omega arith
-
 step-leaves : (h : Exchange) (c : Call) → Leaves h (stepOf h c)
 unfolding Leaves
 step-leaves h c =
-    rw (codes-rising h c .step-is)
-    (decided (refuse h) (doneOf h c) (λ out. (why : Refusal) → out .answer ≡ Refused why → out .exchange ≡ h) (testsOf h c) (λ r why e. refl) (λ p. done c))
-  where
-    done : (c : Call) (why : Refusal) → doneOf h c .answer ≡ Refused why → doneOf h c .exchange ≡ h
-    done (Call.Deposit m t n) why e = absurd (accepts _ _ why e)
-    done (Call.Withdraw m t n) why e = absurd (accepts _ _ why e)
-    done (Call.Order k m mk sd lim n) why e = absurd (accepts _ _ why e)
-    done (Call.Cancel k m) why e = absurd (accepts _ _ why e)
-    done (Call.Open mk at r w len) why e = absurd (accepts _ _ why e)
-    done (Call.Enter k) why e = absurd (accepts _ _ why e)
-    done (Call.Match mk at) why e = absurd (accepts _ _ why e)
-    done (Call.Bid mk m at sd n bound) why e = absurd (accepts _ _ why e)
-    done (Call.Settle mk at) why e = absurd (accepts _ _ why e)
-    done (Call.Claim k) why e = absurd (accepts _ _ why e)
+    step-apart h c (Leaves h) (λ r why e. refl)
+    (λ p why e. absurd (omega (arith, refusal-code why, sym (ap codeOf e) ∙ codes-rising h c .done-accepts)))
 
 refused-leaves : (h : Exchange) (q : Request) (why : Refusal) → requestOf h q .answer ≡ Refused why → requestOf h q .exchange ≡ h
 unfolding requestOf Leaves
@@ -257,21 +233,19 @@ refused-leaves h q why = go (ltb (q .room) (length (answerLine (q .line) (stepOf
 pub whole-of : (h : Exchange) (y : History) → Inv h y → Whole requestOf h y
 whole-of h y i =
     record {
-      conserved = λ t l. omega (arith, i .conserved t l, i .supplied t l);
-      supplied = i .supplied;
-      accounts = i .accounts;
-      tickets-are = λ k l. sym (i .orders k l);
-      places-are = λ k l n p q. sym (i .places k l n p q);
-      refused-stays = λ q why e. refused-leaves h q why e;
-      solvent = λ n p l b e. solvent-in (phase h n) b (subst (MarketOk (phase h n)) e (i .markets n p l));
-      settled-pays =
-          λ k member market side limit o b st. (
-            i .orders k (st .ticket-range) ∙ ap placedIn (entered h y i k member market side limit o b st),
-            claim-pays h y i k member market side limit o b st,
-          );
-      residue-is = i .residue-is;
-      ended-well = i .ended-well;
-      limits = i .limits;
+      books = i .books;
+      tickets = i .tickets;
+      rounds = record { solvent = λ n p l b e. solvent-in (phase h n) b (subst (MarketOk (phase h n)) e (i .markets n p l)) };
+      past = i .past;
+      engine =
+          record {
+            refused-stays = λ q why e. refused-leaves h q why e;
+            settled-pays =
+                λ k terms market o b st. (
+                  sym (i .tickets .tickets-are k (st .ticket-range)) ∙ ap placedIn (entered h y i k terms market o b st),
+                  claim-pays h y i k terms market o b st,
+                );
+          };
     }
 
 -- ---- the theorem

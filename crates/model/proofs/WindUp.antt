@@ -10,7 +10,7 @@ use lib.ListN.{List·getD-eq-default, length, length-map}
 use borrow.Author.Tests.{eq-eqb, le-ltb, lt-ltb, ne-eqb, not-false}
 use mathlib.Core.Logic.{_⊎_, inl, inr}
 use Rattle.model.specs.Answers.{codeOf}
-use Rattle.model.specs.Calls.{above, claimWith, claimedRound, payingOrClosed, refuse, settleDone, settleOf, settleTests, settleWith, settledPhase, unfilled, isEarly}
+use Rattle.model.specs.Calls.{claimWith, claimedRound, payingOrClosed, settleTests, settleWith, settledPhase, unfilled, isEarly}
 use Rattle.model.specs.Closing.{AllAccepted, BackToClosed, CanClose, Names, SettleCloses, WindsUp, afterCalls, next-call, no-call, times}
 use Rattle.model.specs.History.{History, auctioning, logOf, running}
 use Rattle.model.specs.Run.{Reachable, after-call, stepOf}
@@ -35,12 +35,13 @@ use Rattle.model.proofs.Frames.{inside}
 use Rattle.model.proofs.Reach.{reachable-inv}
 use Rattle.model.proofs.ReachBounds.{marked-order}
 use Rattle.model.proofs.Reading.{Sized, phase-same}
+use Rattle.model.proofs.Steps.{accepted-passed, step-passed}
 use Rattle.model.proofs.WholeRun.{claim-passes}
 use Rattle.ticket_set.proofs.Bits.{bit-cases, bit-lt, bit-removed-other, bit-removed-same, removed-lt}
 use Rattle.ticket_set.proofs.Laws.{bit-high, count-le, count-none, count-removed}
 use Rattle.ticket_set.proofs.Least.{next-taken}
 use Rattle.ticket_set.proofs.Members.{members-here, members-there}
-use Rattle.units.proofs.Decide.{Passed, decide-passed, passed-by}
+use Rattle.units.proofs.Decide.{Passed}
 use Rattle.units.proofs.Sums.{sum-zero}
 use Rattle.model.specs.declared.call.Call.the-variants as Call
 
@@ -132,13 +133,6 @@ settle-tests x mk at r pos lt4 ep over late = (
   ),
 )
 
--- a settle that was accepted passed its tests
-accepted-tests : (x : Exchange) (mk at a b : ℕ) → stepOf x (Call.Settle mk at) .answer ≡ Accepted a b → Passed (settleTests x mk at)
-unfolding stepOf settleOf
-accepted-tests x mk at a b e =
-    passed-by (λ (out : Outcome). out .answer ≡ Accepted a b) (refuse x) (settleDone x mk at)
-    (λ r q. absurd (let z : _≡_ {A = ℕ} 0 1 = cc in omega arith)) (settleTests x mk at) e
-
 module _ (x : Exchange) (mk at : ℕ) (z : Sized x) (p : Passed (settleTests x mk at)) where
   settle-market : (0 < mk) × (mk < 4)
   settle-market = let i = inside mk 1 3 (p .0) in (omega (arith, i .0), omega (arith, i .1))
@@ -147,8 +141,7 @@ module _ (x : Exchange) (mk at : ℕ) (z : Sized x) (p : Passed (settleTests x m
   settle-auction = auction-is (phase x mk) (not-false (isAuction (phase x mk)) (p .1 .0))
 
   settle-passes : stepOf x (Call.Settle mk at) ≡ settleWith x mk at (roundIn (phase x mk))
-  unfolding stepOf settleOf
-  settle-passes = decide-passed (refuse x) (settleDone x mk at) (settleTests x mk at) p
+  settle-passes = step-passed x (Call.Settle mk at) p
 
   -- it is accepted, and its market is paying, or closed where no ticket is marked
   settle-accepted : codeOf (stepOf x (Call.Settle mk at) .answer) ≡ 0
@@ -257,7 +250,7 @@ winds-up x l mk r ep at over late ks n =
     (subst (λ (p : Phase). Names (roundIn p .tickets) ks) (sym ep) n)
 
 pub settle-closes : SettleCloses
-settle-closes x l mk at a b e ks n = closed-after x l mk at (accepted-tests x mk at a b e) ks n
+settle-closes x l mk at a b e ks n = closed-after x l mk at (accepted-passed x (Call.Settle mk at) a b e) ks n
 
 -- ---- such a list is there
 
@@ -324,7 +317,7 @@ pub winding-settled : (x : Exchange) → Reachable x → (market at a b : ℕ) �
 winding-settled x l mk at a b e =
     let v = reachable-inv l in
     let z : Sized x = v .1 .sized in
-    let p = accepted-tests x mk at a b e in
+    let p = accepted-passed x (Call.Settle mk at) a b e in
     let m = settle-market x mk at z p in
     record {
       reachable = after-call l (Call.Settle mk at);

@@ -3,27 +3,23 @@
 use Prim.Native.Nat.{ℕ, _+_, _-_, _^_, _≤_, _<_}
 use mathlib.Core.Path.{_≡_}
 use lib.ListN.{length}
-use Rattle.units.specs.declared.Amount.{Amount}
-use Rattle.units.specs.declared.Block.{Block}
 use Rattle.units.specs.Counts.{largest}
+use Rattle.units.specs.Ranges.{highestBound, longestAuction}
 use Rattle.units.specs.Sums.{only}
 use Rattle.ticket_set.specs.TicketSet.{bit}
 use Rattle.pricing.specs.declared.Side.{Side}
 use Rattle.pricing.specs.declared.Side.the-variants.{Buy, Sell}
-use Rattle.pricing.specs.Prices.{sharePaid, shareGot}
-use Rattle.ledger.specs.declared.Row.{Row}
-use Rattle.ledger.specs.Balances.{RowShaped, Shaped, cellOf}
+use Rattle.ledger.specs.Balances.{Shaped}
 use Rattle.model.specs.declared.state.Order.{Order}
-use Rattle.model.specs.declared.state.Ticket.{Ticket}
 use Rattle.model.specs.declared.state.TicketState.{TicketState}
 use Rattle.model.specs.declared.state.TicketState.the-variants.{Free, Resting, Entered}
 use Rattle.model.specs.declared.state.Round.{Round}
 use Rattle.model.specs.declared.state.Phase.{Phase}
 use Rattle.model.specs.declared.state.Phase.the-variants.{Closed, Collect, Auction, Paying}
-use Rattle.model.specs.declared.state.Market.{Market}
 use Rattle.model.specs.declared.state.Exchange.{Exchange}
-use Rattle.model.specs.Sides.{other, offered, wanted}
+use Rattle.model.specs.Sides.{other, offered}
 use Rattle.model.specs.State.{balance, supply, residue, lastBlock, ticket, phase, roundIn, totalsOf}
+use Rattle.model.specs.Calls.{shareIn, gotIn}
 use Rattle.model.specs.Run.{Reachable}
 use Rattle.model.specs.WholeRun.{restingIn}
 
@@ -47,9 +43,9 @@ pub record TermsBounds (reference hi lo len : ℕ) : Type 0 where
   pub low : 0 < lo
   pub order-low : lo ≤ reference
   pub order-high : reference ≤ hi
-  pub high : hi ≤ 1500000000
+  pub high : hi ≤ highestBound
   pub len-pos : 0 < len
-  pub len-high : len ≤ 64
+  pub len-high : len ≤ longestAuction
 
 -- what a round holds of the token that a side offers
 abbrev pub heldIn : Round → Side → ℕ
@@ -89,13 +85,6 @@ pub record ClaimBounds (r : Round) (k : ℕ) (o : Order) (s got : ℕ) : Type 0 
   pub refund : o .offer .0 - s ≤ heldIn r (o .side)
   pub payment : got ≤ heldIn r (other (o .side))
 
--- claim's s and got of an order in its round
-abbrev pub shareIn : Round → Order → ℕ
-shareIn r o = sharePaid (o .offer .0) (totalsOf r (o .side) .paid .0) (totalsOf r (o .side) .total .0)
-
-abbrev pub gotIn : Round → Order → ℕ
-gotIn r o = shareGot (o .offer .0) (totalsOf r (o .side) .got .0) (totalsOf r (o .side) .total .0)
-
 -- ---- the state
 
 -- what market n's round holds of token t
@@ -131,49 +120,3 @@ pub record Bounded (x : Exchange) : Type 0 where
 
 abbrev pub ReachableBounded : Type 0
 ReachableBounded = (x : Exchange) → Reachable x → Bounded x
-
--- ---- what work on parts may ask of them: what these bounds give
-
--- deposit, withdraw: a balance is within its token's supply
-abbrev pub BankBounds : Row → Amount → ℕ → Type 0
-BankBounds row supply token = (token < 4) × (cellOf row token ≤ supply .0)
-
--- cancel: what a resting ticket offers fits beside any balance
-abbrev pub CancelBounds : Row → Ticket → Type 0
-CancelBounds row t =
-    (o : Order) → t .state ≡ Resting o → (o .market < 4) × (cellOf row (offered (o .side) (o .market)) + o .offer .0 ≤ largest)
-
--- enter: it fits beside what the round holds and its side's total
-abbrev pub EnterBounds : Ticket → Market → Type 0
-EnterBounds t market =
-    (o : Order) (r : Round) → t .state ≡ Resting o → market .phase ≡ Collect r
-    → (totalsOf r (o .side) .total .0 + o .offer .0 ≤ largest) × (heldIn r (o .side) + o .offer .0 ≤ largest)
-
--- match: there is a reference price
-abbrev pub MatchBounds : Market → Type 0
-MatchBounds market = (r : Round) → market .phase ≡ Collect r → 0 < r .reference .0
-
--- bid: in auction, from its match on, what a round holds fits beside any balance; the maker's row has its four cells
-pub record BidBounds (r : Round) (row : Row) (last : Block) (number : ℕ) : Type 0 where
-  pub round : RoundBounds r
-  pub auction : AuctionBounds r
-  pub started : r .start .0 ≤ last .0
-  pub market : number < 4
-  pub cells : RowShaped row
-  pub beside : (side : Side) → cellOf row (offered side number) + heldIn r side ≤ largest
-
-abbrev pub BidFits : Market → Row → Block → ℕ → Type 0
-BidFits market row last number = (r : Round) → market .phase ≡ Auction r → BidBounds r row last number
-
--- claim: the round covers it, and what the round holds fits beside any balance and the residue
-pub record PayBounds (o : Order) (r : Round) (row : Row) (quote base : Amount) (k : ℕ) : Type 0 where
-  pub order : OrderBounds o
-  pub round : RoundBounds r
-  pub claim : ClaimBounds r k o (shareIn r o) (gotIn r o)
-  pub balance-fits : cellOf row (wanted (o .side) (o .market)) + heldIn r (other (o .side)) ≤ largest
-  pub quote-fits : quote .0 + heldIn r Buy ≤ largest
-  pub base-fits : base .0 + heldIn r Sell ≤ largest
-
-abbrev pub ClaimFits : Ticket → Market → Row → Amount → Amount → ℕ → Type 0
-ClaimFits t market row quote base k =
-    (o : Order) (r : Round) → t .state ≡ Entered o → market .phase ≡ Paying r → PayBounds o r row quote base k

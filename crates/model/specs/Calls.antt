@@ -1,12 +1,13 @@
--- The ten calls. Each has its tests, "in rising number the conditions that name it, and those of 1 to 5 whose field it has", and then what
--- an accepted call answers and leaves. A test compares sums, so that it means what it says for every number; only k and the price under bid's
--- 17 to 19 are differences, exact since 12 and 16 go before them. The differences that an accepted call works out are exact in every state that
--- calls can leave (specs/Bounds.antt).
+-- The ten calls. Each has its tests, "in rising number the conditions that name it, and those of 1 to 5 whose field it has", in two parts: its form,
+-- which its numbers alone decide, and the rest, over the parts of the state that it looks at; and then what an accepted call answers and leaves. A
+-- test compares sums, so that it means what it says for every number; only k and the price under bid's 17 to 19 are differences, exact since 12 and
+-- 16 go before them. The differences that an accepted call works out are exact in every state that calls can leave (specs/Bounds.antt).
 use Prim.Native.Nat.{ℕ, _+_, _-_}
 use mathlib.Core.Bool.{Bool, not, cond, _||_, _&&_}
-use mathlib.Core.List.{List, [], _∷_}
+use mathlib.Core.List.{List, [], _∷_, _++_}
 use lib.Dec.{ltb, eqb}
-use Rattle.units.specs.Counts.{amount, price, block, largest}
+use Rattle.units.specs.Counts.{amount, price, largest}
+use Rattle.units.specs.Ranges.{lastMember, lastToken, lastMarket, lastTicket, lastSide, highestLimit, highestReference, highestSlack, longestAuction, blocksToMatch}
 use Rattle.units.specs.Decide.{Test, when, decide}
 use Rattle.ticket_set.specs.TicketSet.{inserted, removed, countOf}
 use Rattle.pricing.specs.declared.Side.{Side}
@@ -15,18 +16,21 @@ use Rattle.pricing.specs.declared.Totals.{Totals}
 use Rattle.pricing.specs.declared.Trade.{Trade}
 use Rattle.pricing.specs.Prices.{highBound, lowBound, offLimit, tradeWithin, auctionPrice, quoteFor, sharePaid, shareGot}
 use Rattle.model.specs.declared.state.Order.{Order}
+use Rattle.model.specs.declared.state.TicketState.{TicketState}
 use Rattle.model.specs.declared.state.TicketState.the-variants.{Free, Resting, Entered}
 use Rattle.model.specs.declared.state.Round.{Round}
 use Rattle.model.specs.declared.state.Phase.{Phase}
 use Rattle.model.specs.declared.state.Phase.the-variants.{Closed, Collect, Auction, Paying}
 use Rattle.model.specs.declared.state.Exchange.{Exchange}
+use Rattle.model.specs.declared.call.Call.{Call}
+use Rattle.model.specs.declared.call.Call.the-variants as Call
 use Rattle.model.specs.declared.answer.Refusal.{Refusal}
 use Rattle.model.specs.declared.answer.Refusal.the-variants.{NoSuchMember, NoSuchToken, NoSuchMarket, NoSuchTicket, NoSuchSide, BadAmountOrLimit, TicketInUse, NoSuchOrder, WrongTicketState, BadTerms, WrongPhase, StaleBlock, TooEarly, SupplyExceeded, LimitOutOfBounds, AuctionOver, NotAvailable, BoundMissed, InsufficientBalance}
 use Rattle.model.specs.declared.answer.Answer.the-variants.{Accepted, Refused}
 use Rattle.model.specs.declared.answer.Outcome.{Outcome}
 use Rattle.model.specs.Sides.{sideOf, bySide, offered, wanted, gives, takes}
 use Rattle.model.specs.State.{balance, supply, lastBlock, ticket, orderIn, isFree, isEntered, restingOr}
-use Rattle.model.specs.State.{phase, noTotals, roundIn, isClosed, isCollect, isAuction, isPaying, totalsOf}
+use Rattle.model.specs.State.{openedBetween, phase, roundIn, isClosed, isCollect, isAuction, isPaying, totalsOf}
 use Rattle.model.specs.State.{withStart, withTickets, withSides, withHeld, withSupply, withTicket, withPhase, withBlock, credit, debit, toResidue}
 
 -- ---- outcomes and tests
@@ -49,13 +53,20 @@ outside a from to = below a from || above a to
 
 -- ---- 1 Deposit: member, token, amount
 
-abbrev pub depositTests : Exchange → ℕ → ℕ → ℕ → List (Test Refusal)
-depositTests x member token n =
-    when (above member 15) NoSuchMember
-    ∷ when (above token 3) NoSuchToken
+-- deposit and withdraw
+abbrev pub bankForm : ℕ → ℕ → ℕ → List (Test Refusal)
+bankForm member token n =
+    when (above member lastMember) NoSuchMember
+    ∷ when (above token lastToken) NoSuchToken
     ∷ when (eqb n 0) BadAmountOrLimit
-    ∷ when (above (supply x token + n) largest) SupplyExceeded
     ∷ []
+
+-- 14: "deposits less withdrawals of the token would pass 4,294,967,295"
+abbrev pub depositRest : (supplied n : ℕ) → List (Test Refusal)
+depositRest supplied n = when (above (supplied + n) largest) SupplyExceeded ∷ []
+
+abbrev pub depositTests : Exchange → ℕ → ℕ → ℕ → List (Test Refusal)
+depositTests x member token n = bankForm member token n ++ depositRest (supply x token) n
 
 -- "Answers new balance, 0"
 abbrev pub depositDone : Exchange → ℕ → ℕ → ℕ → Outcome
@@ -68,13 +79,12 @@ depositOf x member token n = decide (depositTests x member token n) (refuse x) (
 
 -- ---- 2 Withdraw: "same fields and answer"
 
+-- 19: "balance below the amount"
+abbrev pub withdrawRest : (held n : ℕ) → List (Test Refusal)
+withdrawRest held n = when (below held n) InsufficientBalance ∷ []
+
 abbrev pub withdrawTests : Exchange → ℕ → ℕ → ℕ → List (Test Refusal)
-withdrawTests x member token n =
-    when (above member 15) NoSuchMember
-    ∷ when (above token 3) NoSuchToken
-    ∷ when (eqb n 0) BadAmountOrLimit
-    ∷ when (below (balance x member token) n) InsufficientBalance
-    ∷ []
+withdrawTests x member token n = bankForm member token n ++ withdrawRest (balance x member token) n
 
 abbrev pub withdrawDone : Exchange → ℕ → ℕ → ℕ → Outcome
 withdrawDone x member token n =
@@ -86,23 +96,37 @@ withdrawOf x member token n = decide (withdrawTests x member token n) (refuse x)
 
 -- ---- 3 Order: ticket, member, market, side, limit, amount
 
+abbrev pub orderForm : ℕ → ℕ → ℕ → ℕ → ℕ → ℕ → List (Test Refusal)
+orderForm k member market side limit n =
+    when (above member lastMember) NoSuchMember
+    ∷ when (outside market 1 lastMarket) NoSuchMarket
+    ∷ when (above k lastTicket) NoSuchTicket
+    ∷ when (above side lastSide) NoSuchSide
+    ∷ when (eqb n 0 || outside limit 1 highestLimit) BadAmountOrLimit
+    ∷ []
+
+-- held is the balance of the token offered
+abbrev pub orderRest : TicketState → (held n : ℕ) → List (Test Refusal)
+orderRest t held n =
+    when (not (isFree t)) TicketInUse
+    ∷ when (below held n) InsufficientBalance
+    ∷ []
+
 abbrev pub orderTests : Exchange → ℕ → ℕ → ℕ → ℕ → ℕ → ℕ → List (Test Refusal)
 orderTests x k member market side limit n =
-    when (above member 15) NoSuchMember
-    ∷ when (outside market 1 3) NoSuchMarket
-    ∷ when (above k 63) NoSuchTicket
-    ∷ when (above side 1) NoSuchSide
-    ∷ when (eqb n 0 || outside limit 1 2000000000) BadAmountOrLimit
-    ∷ when (not (isFree (ticket x k))) TicketInUse
-    ∷ when (below (balance x member (offered (sideOf side) market)) n) InsufficientBalance
-    ∷ []
+    orderForm k member market side limit n ++ orderRest (ticket x k) (balance x member (offered (sideOf side) market)) n
+
+-- the order of a call's fields
+abbrev pub orderFrom : ℕ → ℕ → ℕ → ℕ → ℕ → Order
+orderFrom member market side limit n =
+    record { member = member; market = market; side = sideOf side; limit = price limit; offer = amount n }
 
 -- "Moves the amount from the balance into the ticket, resting. Answers amount, 0"
 abbrev pub orderDone : Exchange → ℕ → ℕ → ℕ → ℕ → ℕ → ℕ → Outcome
 orderDone x k member market side limit n =
     accept n 0
     (withTicket (debit x member (offered (sideOf side) market) n) k
-    (Resting (record { member = member; market = market; side = sideOf side; limit = price limit; offer = amount n })))
+    (Resting (orderFrom member market side limit n)))
 
 unfoldable pub orderOf : Exchange → ℕ → ℕ → ℕ → ℕ → ℕ → ℕ → Outcome
 orderOf x k member market side limit n =
@@ -110,14 +134,21 @@ orderOf x k member market side limit n =
 
 -- ---- 4 Cancel: ticket, member
 
-abbrev pub cancelTests : Exchange → ℕ → ℕ → List (Test Refusal)
-cancelTests x k member =
-    let t = ticket x k in
-    when (above member 15) NoSuchMember
-    ∷ when (above k 63) NoSuchTicket
-    ∷ when (isFree t || not (eqb (orderIn t .member) member)) NoSuchOrder
+abbrev pub cancelForm : ℕ → ℕ → List (Test Refusal)
+cancelForm k member =
+    when (above member lastMember) NoSuchMember
+    ∷ when (above k lastTicket) NoSuchTicket
+    ∷ []
+
+-- 8: "ticket free", "or not this member's"; 9: "ticket in a round"
+abbrev pub cancelRest : TicketState → (member : ℕ) → List (Test Refusal)
+cancelRest t member =
+    when (isFree t || not (eqb (orderIn t .member) member)) NoSuchOrder
     ∷ when (isEntered t) WrongTicketState
     ∷ []
+
+abbrev pub cancelTests : Exchange → ℕ → ℕ → List (Test Refusal)
+cancelTests x k member = cancelForm k member ++ cancelRest (ticket x k) member
 
 -- "Returns what is left; the ticket is free. Answers that amount, 0"
 abbrev pub cancelWith : Exchange → ℕ → Order → Outcome
@@ -133,30 +164,24 @@ cancelOf x k member = decide (cancelTests x k member) (refuse x) (cancelDone x k
 
 -- ---- 5 Open: market, block, reference price r, slack w, auction length L
 
-abbrev pub openTests : Exchange → ℕ → ℕ → ℕ → ℕ → ℕ → List (Test Refusal)
-openTests x market at r w len =
-    when (outside market 1 3) NoSuchMarket
-    ∷ when (outside r 1 1000000000 || (above w 500000 || outside len 1 64)) BadTerms
-    ∷ when (not (isClosed (phase x market))) WrongPhase
-    ∷ when (below at (lastBlock x)) StaleBlock
+abbrev pub openForm : ℕ → ℕ → ℕ → ℕ → List (Test Refusal)
+openForm market r w len =
+    when (outside market 1 lastMarket) NoSuchMarket
+    ∷ when (outside r 1 highestReference || (above w highestSlack || outside len 1 longestAuction)) BadTerms
     ∷ []
+
+abbrev pub openRest : Phase → (last at : ℕ) → List (Test Refusal)
+openRest p last at =
+    when (not (isClosed p)) WrongPhase
+    ∷ when (below at last) StaleBlock
+    ∷ []
+
+abbrev pub openTests : Exchange → ℕ → ℕ → ℕ → ℕ → ℕ → List (Test Refusal)
+openTests x market at r w len = openForm market r w len ++ openRest (phase x market) (lastBlock x) at
 
 -- a round as it opens: its terms, and nothing entered
 abbrev pub openedRound : ℕ → ℕ → ℕ → ℕ → Round
-openedRound at r w len =
-    record {
-      reference = price r;
-      hi = price (highBound r w);
-      lo = price (lowBound r w);
-      length = len;
-      opened = block at;
-      start = block 0;
-      tickets = 0;
-      buys = noTotals;
-      sells = noTotals;
-      quote = amount 0;
-      base = amount 0;
-    }
+openedRound at r w len = openedBetween at r len (price (highBound r w)) (price (lowBound r w))
 
 -- "Phase collect. Answers hi, lo"
 abbrev pub openDone : Exchange → ℕ → ℕ → ℕ → ℕ → ℕ → Outcome
@@ -169,18 +194,23 @@ openOf x market at r w len = decide (openTests x market at r w len) (refuse x) (
 
 -- ---- 6 Enter: ticket
 
-abbrev pub enterTests : Exchange → ℕ → List (Test Refusal)
-enterTests x k =
-    let t = ticket x k in
+-- enter and claim
+abbrev pub ticketForm : ℕ → List (Test Refusal)
+ticketForm k = when (above k lastTicket) NoSuchTicket ∷ []
+
+-- 15: "buy limit below hi, or sell limit above lo"
+abbrev pub enterRest : TicketState → Phase → List (Test Refusal)
+enterRest t p =
     let o = orderIn t in
-    let p = phase x (o .market) in
     let r = roundIn p in
-    when (above k 63) NoSuchTicket
-    ∷ when (isFree t) NoSuchOrder
+    when (isFree t) NoSuchOrder
     ∷ when (isEntered t) WrongTicketState
     ∷ when (not (isCollect p)) WrongPhase
     ∷ when (offLimit (o .side) (o .limit .0) (r .hi .0) (r .lo .0)) LimitOutOfBounds
     ∷ []
+
+abbrev pub enterTests : Exchange → ℕ → List (Test Refusal)
+enterTests x k = ticketForm k ++ enterRest (ticket x k) (phase x (orderIn (ticket x k) .market))
 
 -- a side with n more offered
 abbrev pub plusTotal : Totals → ℕ → Totals
@@ -210,14 +240,20 @@ enterOf x k = decide (enterTests x k) (refuse x) (enterDone x k)
 
 -- ---- 7 Match: market, block
 
+-- match and settle
+abbrev pub marketForm : ℕ → List (Test Refusal)
+marketForm market = when (outside market 1 lastMarket) NoSuchMarket ∷ []
+
 -- "At least 4 blocks after open"
-abbrev pub matchTests : Exchange → ℕ → ℕ → List (Test Refusal)
-matchTests x market at =
-    when (outside market 1 3) NoSuchMarket
-    ∷ when (not (isCollect (phase x market))) WrongPhase
-    ∷ when (below at (lastBlock x)) StaleBlock
-    ∷ when (below at (roundIn (phase x market) .opened .0 + 4)) TooEarly
+abbrev pub matchRest : Phase → (last at : ℕ) → List (Test Refusal)
+matchRest p last at =
+    when (not (isCollect p)) WrongPhase
+    ∷ when (below at last) StaleBlock
+    ∷ when (below at (roundIn p .opened .0 + blocksToMatch)) TooEarly
     ∷ []
+
+abbrev pub matchTests : Exchange → ℕ → ℕ → List (Test Refusal)
+matchTests x market at = marketForm market ++ matchRest (phase x market) (lastBlock x) at
 
 -- "Buys pay c and get m; sells the reverse. Auction starts at this block"
 abbrev pub matchedRound : Round → ℕ → Trade → Round
@@ -264,23 +300,31 @@ boundMissed Sell q bound = above q bound
 abbrev pub isOver : Round → ℕ → Bool
 isOver r at = above at (r .start .0 + r .length)
 
-abbrev pub bidTests : Exchange → ℕ → ℕ → ℕ → ℕ → ℕ → ℕ → List (Test Refusal)
-bidTests x market member at side n bound =
-    let p = phase x market in
-    let r = roundIn p in
-    let s = sideOf side in
-    let q = bidQuote r s at n in
-    when (above member 15) NoSuchMember
-    ∷ when (outside market 1 3) NoSuchMarket
-    ∷ when (above side 1) NoSuchSide
+abbrev pub bidForm : ℕ → ℕ → ℕ → ℕ → List (Test Refusal)
+bidForm market member side n =
+    when (above member lastMember) NoSuchMember
+    ∷ when (outside market 1 lastMarket) NoSuchMarket
+    ∷ when (above side lastSide) NoSuchSide
     ∷ when (eqb n 0) BadAmountOrLimit
-    ∷ when (not (isAuction p)) WrongPhase
-    ∷ when (below at (lastBlock x)) StaleBlock
+    ∷ []
+
+-- held is the maker's balance of the token that the maker gives; 19: "quote (8, side 1) or base (8, side 0)"
+abbrev pub bidRest : Phase → (last at : ℕ) → Side → (n bound held : ℕ) → List (Test Refusal)
+bidRest p last at s n bound held =
+    let r = roundIn p in
+    let q = bidQuote r s at n in
+    when (not (isAuction p)) WrongPhase
+    ∷ when (below at last) StaleBlock
     ∷ when (isOver r at) AuctionOver
     ∷ when (notAvailable s n q (totalsOf r s)) NotAvailable
     ∷ when (boundMissed s q bound) BoundMissed
-    ∷ when (below (balance x member (wanted s market)) (gives s n q)) InsufficientBalance
+    ∷ when (below held (gives s n q)) InsufficientBalance
     ∷ []
+
+abbrev pub bidTests : Exchange → ℕ → ℕ → ℕ → ℕ → ℕ → ℕ → List (Test Refusal)
+bidTests x market member at side n bound =
+    let s = sideOf side in
+    bidForm market member side n ++ bidRest (phase x market) (lastBlock x) at s n bound (balance x member (wanted s market))
 
 -- the side pays what the maker takes and gets what the maker gives
 abbrev pub plusTrade : Totals → ℕ → ℕ → Totals
@@ -324,15 +368,15 @@ unfilled t = below (t .paid .0) (t .total .0)
 abbrev pub isEarly : Round → ℕ → Bool
 isEarly r at = (unfilled (r .buys) || unfilled (r .sells)) && not (isOver r at)
 
-abbrev pub settleTests : Exchange → ℕ → ℕ → List (Test Refusal)
-settleTests x market at =
-    let p = phase x market in
-    let r = roundIn p in
-    when (outside market 1 3) NoSuchMarket
-    ∷ when (not (isAuction p)) WrongPhase
-    ∷ when (below at (lastBlock x)) StaleBlock
-    ∷ when (isEarly r at) TooEarly
+abbrev pub settleRest : Phase → (last at : ℕ) → List (Test Refusal)
+settleRest p last at =
+    when (not (isAuction p)) WrongPhase
+    ∷ when (below at last) StaleBlock
+    ∷ when (isEarly (roundIn p) at) TooEarly
     ∷ []
+
+abbrev pub settleTests : Exchange → ℕ → ℕ → List (Test Refusal)
+settleTests x market at = marketForm market ++ settleRest (phase x market) (lastBlock x) at
 
 -- "Phase paying; closed at once if no bit is set"
 abbrev pub settledPhase : Round → Phase
@@ -352,14 +396,16 @@ settleOf x market at = decide (settleTests x market at) (refuse x) (settleDone x
 
 -- ---- 10 Claim: ticket
 
-abbrev pub claimTests : Exchange → ℕ → List (Test Refusal)
-claimTests x k =
-    let t = ticket x k in
-    when (above k 63) NoSuchTicket
-    ∷ when (isFree t) NoSuchOrder
+-- 9: "ticket in a round (4, 6), or not in one (10)"
+abbrev pub claimRest : TicketState → Phase → List (Test Refusal)
+claimRest t p =
+    when (isFree t) NoSuchOrder
     ∷ when (not (isEntered t)) WrongTicketState
-    ∷ when (not (isPaying (phase x (orderIn t .market)))) WrongPhase
+    ∷ when (not (isPaying p)) WrongPhase
     ∷ []
+
+abbrev pub claimTests : Exchange → ℕ → List (Test Refusal)
+claimTests x k = ticketForm k ++ claimRest (ticket x k) (phase x (orderIn (ticket x k) .market))
 
 -- "Its bit is cleared", and its refund and what it got leave the round
 abbrev pub claimedRound : Round → ℕ → Side → ℕ → ℕ → Round
@@ -375,7 +421,7 @@ payingOrClosed x market r =
     (withPhase (toResidue (toResidue x 0 (r .quote .0)) market (r .base .0)) market Closed)
     (withPhase x market (Paying r))
 
--- ticket k with order o is paid s and got out of round r, "The rest, o - s, stays as a resting ticket": "Answers s, got"
+-- ticket k with order o pays s and gets got in round r, "The rest, o - s, stays as a resting ticket": "Answers s, got"
 abbrev pub paidOut : Exchange → ℕ → Order → Round → ℕ → ℕ → Outcome
 paidOut x k o r s got =
     accept s got
@@ -385,15 +431,44 @@ paidOut x k o r s got =
     (claimedRound r k (o .side) (o .offer .0 - s) got))
 
 -- "With the side's total T, paid P and got G, an offer o pays s = o×P/T rounded up and gets o×G/T rounded down"
+abbrev pub shareIn : Round → Order → ℕ
+shareIn r o = sharePaid (o .offer .0) (totalsOf r (o .side) .paid .0) (totalsOf r (o .side) .total .0)
+
+abbrev pub gotIn : Round → Order → ℕ
+gotIn r o = shareGot (o .offer .0) (totalsOf r (o .side) .got .0) (totalsOf r (o .side) .total .0)
+
 abbrev pub claimWith : Exchange → ℕ → Order → Round → Outcome
-claimWith x k o r =
-    let t = totalsOf r (o .side) in
-    paidOut x k o r
-    (sharePaid (o .offer .0) (t .paid .0) (t .total .0))
-    (shareGot (o .offer .0) (t .got .0) (t .total .0))
+claimWith x k o r = paidOut x k o r (shareIn r o) (gotIn r o)
 
 abbrev pub claimDone : Exchange → ℕ → Outcome
 claimDone x k = claimWith x k (orderIn (ticket x k)) (roundIn (phase x (orderIn (ticket x k) .market)))
 
 unfoldable pub claimOf : Exchange → ℕ → Outcome
 claimOf x k = decide (claimTests x k) (refuse x) (claimDone x k)
+
+-- ---- any call
+
+-- the tests of any call, and what it does where none applies
+abbrev pub testsOf : Exchange → Call → List (Test Refusal)
+testsOf x (Call.Deposit member token n) = depositTests x member token n
+testsOf x (Call.Withdraw member token n) = withdrawTests x member token n
+testsOf x (Call.Order k member market side limit n) = orderTests x k member market side limit n
+testsOf x (Call.Cancel k member) = cancelTests x k member
+testsOf x (Call.Open market at r w len) = openTests x market at r w len
+testsOf x (Call.Enter k) = enterTests x k
+testsOf x (Call.Match market at) = matchTests x market at
+testsOf x (Call.Bid market member at side n bound) = bidTests x market member at side n bound
+testsOf x (Call.Settle market at) = settleTests x market at
+testsOf x (Call.Claim k) = claimTests x k
+
+abbrev pub doneOf : Exchange → Call → Outcome
+doneOf x (Call.Deposit member token n) = depositDone x member token n
+doneOf x (Call.Withdraw member token n) = withdrawDone x member token n
+doneOf x (Call.Order k member market side limit n) = orderDone x k member market side limit n
+doneOf x (Call.Cancel k member) = cancelDone x k
+doneOf x (Call.Open market at r w len) = openDone x market at r w len
+doneOf x (Call.Enter k) = enterDone x k
+doneOf x (Call.Match market at) = matchDone x market at
+doneOf x (Call.Bid market member at side n bound) = bidDone x market member at side n
+doneOf x (Call.Settle market at) = settleDone x market at
+doneOf x (Call.Claim k) = claimDone x k

@@ -1,4 +1,4 @@
--- The codes that each call tests, as document 01 numbers them, and that a step is the decision over these tests.
+-- That a step is the decision over its call's tests, and that these have the codes of its kind (Kinds.antt), rising.
 use Prim.Native.Nat.{ℕ, _<_, _≤_}
 use mathlib.Core.Path.{_≡_}
 use mathlib.Core.List.{List, [], _∷_, map}
@@ -6,51 +6,16 @@ use lib.ListN.{length}
 use Rattle.units.specs.Decide.{Test, decide}
 use Rattle.model.specs.declared.state.Exchange.{Exchange}
 use Rattle.model.specs.declared.call.Call.{Call}
-use Rattle.model.specs.declared.call.Call.the-variants as Call
 use Rattle.model.specs.declared.answer.Refusal.{Refusal}
-use Rattle.model.specs.declared.answer.Outcome.{Outcome}
 use Rattle.model.specs.declared.answer.Refusal.the-variants.{BufferTooShort}
 use Rattle.model.specs.Answers.{refusalCode, codeOf, answerLine}
-use Rattle.model.specs.Calls.{refuse, depositTests, depositDone, withdrawTests, withdrawDone, orderTests, orderDone, cancelTests, cancelDone, openTests, openDone, enterTests, enterDone, matchTests, matchDone, bidTests, bidDone, settleTests, settleDone, claimTests, claimDone}
+use Rattle.model.specs.Calls.{refuse, testsOf, doneOf}
+use Rattle.model.specs.Kinds.{kinds, kindOf, codesIn}
 use Rattle.model.specs.Run.{stepOf, Request, requestOf}
 
--- the tests of any call, and what it does where none applies
-abbrev pub testsOf : Exchange → Call → List (Test Refusal)
-testsOf x (Call.Deposit member token n) = depositTests x member token n
-testsOf x (Call.Withdraw member token n) = withdrawTests x member token n
-testsOf x (Call.Order k member market side limit n) = orderTests x k member market side limit n
-testsOf x (Call.Cancel k member) = cancelTests x k member
-testsOf x (Call.Open market at r w len) = openTests x market at r w len
-testsOf x (Call.Enter k) = enterTests x k
-testsOf x (Call.Match market at) = matchTests x market at
-testsOf x (Call.Bid market member at side n bound) = bidTests x market member at side n bound
-testsOf x (Call.Settle market at) = settleTests x market at
-testsOf x (Call.Claim k) = claimTests x k
-
-abbrev pub doneOf : Exchange → Call → Outcome
-doneOf x (Call.Deposit member token n) = depositDone x member token n
-doneOf x (Call.Withdraw member token n) = withdrawDone x member token n
-doneOf x (Call.Order k member market side limit n) = orderDone x k member market side limit n
-doneOf x (Call.Cancel k member) = cancelDone x k
-doneOf x (Call.Open market at r w len) = openDone x market at r w len
-doneOf x (Call.Enter k) = enterDone x k
-doneOf x (Call.Match market at) = matchDone x market at
-doneOf x (Call.Bid market member at side n bound) = bidDone x market member at side n
-doneOf x (Call.Settle market at) = settleDone x market at
-doneOf x (Call.Claim k) = claimDone x k
-
--- by kind, from "Why a call is turned down": 1 to 5 where the call has the field, and those that name its kind
+-- the codes that a call tests: those of its kind
 abbrev pub codesOf : Call → List ℕ
-codesOf (Call.Deposit member token n) = 1 ∷ 2 ∷ 6 ∷ 14 ∷ []
-codesOf (Call.Withdraw member token n) = 1 ∷ 2 ∷ 6 ∷ 19 ∷ []
-codesOf (Call.Order k member market side limit n) = 1 ∷ 3 ∷ 4 ∷ 5 ∷ 6 ∷ 7 ∷ 19 ∷ []
-codesOf (Call.Cancel k member) = 1 ∷ 4 ∷ 8 ∷ 9 ∷ []
-codesOf (Call.Open market at r w len) = 3 ∷ 10 ∷ 11 ∷ 12 ∷ []
-codesOf (Call.Enter k) = 4 ∷ 8 ∷ 9 ∷ 11 ∷ 15 ∷ []
-codesOf (Call.Match market at) = 3 ∷ 11 ∷ 12 ∷ 13 ∷ []
-codesOf (Call.Bid market member at side n bound) = 1 ∷ 3 ∷ 5 ∷ 6 ∷ 11 ∷ 12 ∷ 16 ∷ 17 ∷ 18 ∷ 19 ∷ []
-codesOf (Call.Settle market at) = 3 ∷ 11 ∷ 12 ∷ 13 ∷ []
-codesOf (Call.Claim k) = 4 ∷ 8 ∷ 9 ∷ 11 ∷ []
+codesOf c = codesIn kinds (kindOf c)
 
 -- each number is above the one before it
 abbrev pub Rising : List ℕ → Type 0

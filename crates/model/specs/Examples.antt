@@ -7,7 +7,7 @@ use mathlib.Core.List.{List, [], _∷_, _++_}
 use lib.Dec.{eqb}
 use Rattle.model.specs.declared.call.Call.{Call}
 use Rattle.model.specs.declared.call.Call.the-variants.{Deposit, Withdraw, Order, Cancel, Open, Enter, Match, Bid, Settle, Claim}
-use Rattle.model.specs.Codes.{codesOf}
+use Rattle.model.specs.Kinds.{Kind, kindOf}
 use Rattle.model.specs.Scripts.{Line, accepted, refused, balance-is, supply-is, residue-is, closed-is, callsOf, Accounts, accounts}
 
 -- Deposit and withdraw: new balances, the last member and the last token, a token's supply up to its largest, and a balance down to 0.
@@ -650,34 +650,6 @@ twoRoundsAccounts =
 
 -- ---- what the examples cover
 
--- the kind numbers of "The ten calls, by kind number and fields"
-abbrev pub kindOf : Call → ℕ
-kindOf (Deposit member token n) = 1
-kindOf (Withdraw member token n) = 2
-kindOf (Order k member market side limit n) = 3
-kindOf (Cancel k member) = 4
-kindOf (Open market at r w len) = 5
-kindOf (Enter k) = 6
-kindOf (Match market at) = 7
-kindOf (Bid market member at side n bound) = 8
-kindOf (Settle market at) = 9
-kindOf (Claim k) = 10
-
--- one call of each kind
-unfoldable pub kinds : List Call
-kinds =
-    Deposit 0 0 0
-    ∷ Withdraw 0 0 0
-    ∷ Order 0 0 0 0 0 0
-    ∷ Cancel 0 0
-    ∷ Open 0 0 0 0 0
-    ∷ Enter 0
-    ∷ Match 0 0
-    ∷ Bid 0 0 0 0 0 0
-    ∷ Settle 0 0
-    ∷ Claim 0
-    ∷ []
-
 -- the line is a call of this kind with this code
 abbrev pub shows : (kind code : ℕ) → Line → Bool
 shows kind code (accepted c a b) = eqb (kindOf c) kind && eqb code 0
@@ -700,6 +672,6 @@ allShown lss kind [] = true
 allShown lss kind (n ∷ ns) = shown lss kind n && allShown lss kind ns
 
 -- every kind is shown with 0 and with each code that it tests
-unfoldable pub covers : List (List Line) → List Call → Bool
+unfoldable pub covers : List (List Line) → List Kind → Bool
 covers lss [] = true
-covers lss (c ∷ cs) = allShown lss (kindOf c) (0 ∷ codesOf c) && covers lss cs
+covers lss (k ∷ ks) = allShown lss (k .number) (0 ∷ k .codes) && covers lss ks

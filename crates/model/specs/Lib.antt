@@ -3,12 +3,12 @@ pub mod State
 pub mod Answers
 pub mod Calls
 pub mod Run
+pub mod Kinds
 pub mod Codes
 pub mod History
 pub mod WholeRun
 pub mod Closing
 pub mod Bounds
-pub mod Parts
 pub mod Scripts
 pub mod Day
 pub mod Edges

@@ -5,28 +5,19 @@ use mathlib.Core.Bool.{cond}
 use mathlib.Core.List.{List, [], _∷_}
 use lib.Dec.{ltb}
 use lib.ListN.{length}
+use Rattle.units.specs.Decide.{decide}
 use Rattle.model.specs.declared.state.Exchange.{Exchange}
 use Rattle.model.specs.declared.call.Call.{Call}
-use Rattle.model.specs.declared.call.Call.the-variants as Call
 use Rattle.model.specs.declared.answer.Answer.{Answer}
 use Rattle.model.specs.declared.answer.Outcome.{Outcome}
 use Rattle.model.specs.declared.answer.Refusal.the-variants.{BufferTooShort}
 use Rattle.model.specs.State.{freshExchange}
 use Rattle.model.specs.Answers.{answerLine}
-use Rattle.model.specs.Calls.{refuse, depositOf, withdrawOf, orderOf, cancelOf, openOf, enterOf, matchOf, bidOf, settleOf, claimOf}
+use Rattle.model.specs.Calls.{refuse, testsOf, doneOf}
 
--- one call
+-- one call: its tests, and what it does where none applies
 unfoldable pub stepOf : Exchange → Call → Outcome
-stepOf x (Call.Deposit member token n) = depositOf x member token n
-stepOf x (Call.Withdraw member token n) = withdrawOf x member token n
-stepOf x (Call.Order k member market side limit n) = orderOf x k member market side limit n
-stepOf x (Call.Cancel k member) = cancelOf x k member
-stepOf x (Call.Open market at r w len) = openOf x market at r w len
-stepOf x (Call.Enter k) = enterOf x k
-stepOf x (Call.Match market at) = matchOf x market at
-stepOf x (Call.Bid market member at side n bound) = bidOf x market member at side n bound
-stepOf x (Call.Settle market at) = settleOf x market at
-stepOf x (Call.Claim k) = claimOf x k
+stepOf x c = decide (testsOf x c) (refuse x) (doneOf x c)
 
 -- a call with the number of its line and the bytes lent for its answer line
 pub record Request : Type 0 where

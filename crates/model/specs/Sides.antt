@@ -29,9 +29,7 @@ wanted Sell market = 0
 
 -- what the maker of a bid for n base and q quote gives, and what the maker takes: the reverse of what the side does whose orders it meets
 abbrev pub gives : Side → ℕ → ℕ → ℕ
-gives Buy n q = n
-gives Sell n q = q
+gives side n q = bySide side n q
 
 abbrev pub takes : Side → ℕ → ℕ → ℕ
-takes Buy n q = q
-takes Sell n q = n
+takes side n q = bySide side q n

@@ -3,6 +3,9 @@ use Prim.Native.Nat.{ℕ, zero, suc, _+_}
 use mathlib.Core.Bool.{Bool, true, false}
 use mathlib.Core.List.{List}
 use lib.ListN.{getD, set, replicate}
+use Rattle.units.specs.declared.Amount.{Amount}
+use Rattle.units.specs.declared.Price.{Price}
+use Rattle.units.specs.declared.Block.{Block}
 use Rattle.units.specs.Counts.{amount, price, block}
 use Rattle.pricing.specs.declared.Side.{Side}
 use Rattle.pricing.specs.declared.Side.the-variants.{Buy, Sell}
@@ -92,14 +95,15 @@ phase x n = marketAt (x .markets) n .phase
 abbrev pub noTotals : Totals
 noTotals = record { total = amount 0; paid = amount 0; got = amount 0 }
 
-abbrev pub blankRound : Round
-blankRound =
+-- a round with its block, reference price, length and bounds, and nothing entered
+abbrev pub openedBetween : ℕ → ℕ → ℕ → (hi lo : Price) → Round
+openedBetween at r len hi lo =
     record {
-      reference = price 0;
-      hi = price 0;
-      lo = price 0;
-      length = 0;
-      opened = block 0;
+      reference = price r;
+      hi = hi;
+      lo = lo;
+      length = len;
+      opened = block at;
       start = block 0;
       tickets = 0;
       buys = noTotals;
@@ -107,6 +111,9 @@ blankRound =
       quote = amount 0;
       base = amount 0;
     }
+
+abbrev pub blankRound : Round
+blankRound = openedBetween 0 0 0 (price 0) (price 0)
 
 -- the round of a market that is not closed
 abbrev pub roundIn : Phase → Round
@@ -146,6 +153,8 @@ totalsOf r Sell = r .sells
 
 -- ---- a round with one thing changed
 
+-- one field set; a new field of a round is named here, in openedBetween, in the struct and where code opens a round
+
 abbrev pub withStart : Round → ℕ → Round
 withStart r b =
     record { reference = r .reference; hi = r .hi; lo = r .lo; length = r .length; opened = r .opened; start = block b; tickets = r .tickets; buys = r .buys; sells = r .sells; quote = r .quote; base = r .base }
@@ -154,51 +163,87 @@ abbrev pub withTickets : Round → ℕ → Round
 withTickets r s =
     record { reference = r .reference; hi = r .hi; lo = r .lo; length = r .length; opened = r .opened; start = r .start; tickets = s; buys = r .buys; sells = r .sells; quote = r .quote; base = r .base }
 
+abbrev pub withBuys : Round → Totals → Round
+withBuys r t =
+    record { reference = r .reference; hi = r .hi; lo = r .lo; length = r .length; opened = r .opened; start = r .start; tickets = r .tickets; buys = t; sells = r .sells; quote = r .quote; base = r .base }
+
+abbrev pub withSells : Round → Totals → Round
+withSells r t =
+    record { reference = r .reference; hi = r .hi; lo = r .lo; length = r .length; opened = r .opened; start = r .start; tickets = r .tickets; buys = r .buys; sells = t; quote = r .quote; base = r .base }
+
+abbrev pub withQuote : Round → ℕ → Round
+withQuote r n =
+    record { reference = r .reference; hi = r .hi; lo = r .lo; length = r .length; opened = r .opened; start = r .start; tickets = r .tickets; buys = r .buys; sells = r .sells; quote = amount n; base = r .base }
+
+abbrev pub withBase : Round → ℕ → Round
+withBase r n =
+    record { reference = r .reference; hi = r .hi; lo = r .lo; length = r .length; opened = r .opened; start = r .start; tickets = r .tickets; buys = r .buys; sells = r .sells; quote = r .quote; base = amount n }
+
+-- the totals of both sides
 abbrev pub withSides : Round → Totals → Totals → Round
-withSides r buys sells =
-    record { reference = r .reference; hi = r .hi; lo = r .lo; length = r .length; opened = r .opened; start = r .start; tickets = r .tickets; buys = buys; sells = sells; quote = r .quote; base = r .base }
+withSides r buys sells = withSells (withBuys r buys) sells
 
 -- what the round holds
 abbrev pub withHeld : Round → ℕ → ℕ → Round
-withHeld r quote base =
-    record { reference = r .reference; hi = r .hi; lo = r .lo; length = r .length; opened = r .opened; start = r .start; tickets = r .tickets; buys = r .buys; sells = r .sells; quote = amount quote; base = amount base }
+withHeld r quote base = withBase (withQuote r quote) base
 
 -- ---- the exchange with one thing changed
 
-abbrev pub withLedger : Exchange → Ledger → Exchange
-withLedger x l =
-    record { ledger = l; supply = x .supply; residue = x .residue; tickets = x .tickets; markets = x .markets; last = x .last }
+-- one field set; a new field of the exchange is named here, in freshExchange, in the struct and in its `fresh`, and nowhere else
+
+abbrev pub setLedger : Exchange → Ledger → Exchange
+setLedger x v =
+    record { ledger = v; supply = x .supply; residue = x .residue; tickets = x .tickets; markets = x .markets; last = x .last }
+
+abbrev pub setSupply : Exchange → List Amount → Exchange
+setSupply x v =
+    record { ledger = x .ledger; supply = v; residue = x .residue; tickets = x .tickets; markets = x .markets; last = x .last }
+
+abbrev pub setResidue : Exchange → List Amount → Exchange
+setResidue x v =
+    record { ledger = x .ledger; supply = x .supply; residue = v; tickets = x .tickets; markets = x .markets; last = x .last }
+
+abbrev pub setTickets : Exchange → List Ticket → Exchange
+setTickets x v =
+    record { ledger = x .ledger; supply = x .supply; residue = x .residue; tickets = v; markets = x .markets; last = x .last }
+
+abbrev pub setMarkets : Exchange → List Market → Exchange
+setMarkets x v =
+    record { ledger = x .ledger; supply = x .supply; residue = x .residue; tickets = x .tickets; markets = v; last = x .last }
+
+abbrev pub setLast : Exchange → Block → Exchange
+setLast x v =
+    record { ledger = x .ledger; supply = x .supply; residue = x .residue; tickets = x .tickets; markets = x .markets; last = v }
 
 abbrev pub withSupply : Exchange → ℕ → ℕ → Exchange
-withSupply x t n =
-    record { ledger = x .ledger; supply = set (x .supply) t (amount n); residue = x .residue; tickets = x .tickets; markets = x .markets; last = x .last }
+withSupply x t n = setSupply x (set (x .supply) t (amount n))
 
 abbrev pub withResidue : Exchange → ℕ → ℕ → Exchange
-withResidue x t n =
-    record { ledger = x .ledger; supply = x .supply; residue = set (x .residue) t (amount n); tickets = x .tickets; markets = x .markets; last = x .last }
+withResidue x t n = setResidue x (set (x .residue) t (amount n))
 
 abbrev pub withTicket : Exchange → ℕ → TicketState → Exchange
-withTicket x k s =
-    record { ledger = x .ledger; supply = x .supply; residue = x .residue; tickets = set (x .tickets) k (record { state = s }); markets = x .markets; last = x .last }
+withTicket x k s = setTickets x (set (x .tickets) k (record { state = s }))
+
+-- a market in another phase; it has nothing else
+abbrev pub inPhase : Market → Phase → Market
+inPhase m p = record { phase = p }
 
 abbrev pub setMarket : List Market → ℕ → Market → List Market
 setMarket ms zero m = ms
 setMarket ms (suc i) m = set ms i m
 
 abbrev pub withPhase : Exchange → ℕ → Phase → Exchange
-withPhase x n p =
-    record { ledger = x .ledger; supply = x .supply; residue = x .residue; tickets = x .tickets; markets = setMarket (x .markets) n (record { phase = p }); last = x .last }
+withPhase x n p = setMarkets x (setMarket (x .markets) n (inPhase (marketAt (x .markets) n) p))
 
 abbrev pub withBlock : Exchange → ℕ → Exchange
-withBlock x b =
-    record { ledger = x .ledger; supply = x .supply; residue = x .residue; tickets = x .tickets; markets = x .markets; last = block b }
+withBlock x b = setLast x (block b)
 
 -- n more, and n less, of token t for member m
 abbrev pub credit : Exchange → ℕ → ℕ → ℕ → Exchange
-credit x m t n = withLedger x (credited (x .ledger) m t n)
+credit x m t n = setLedger x (credited (x .ledger) m t n)
 
 abbrev pub debit : Exchange → ℕ → ℕ → ℕ → Exchange
-debit x m t n = withLedger x (debited (x .ledger) m t n)
+debit x m t n = setLedger x (debited (x .ledger) m t n)
 
 -- "into the tray"
 abbrev pub toResidue : Exchange → ℕ → ℕ → Exchange

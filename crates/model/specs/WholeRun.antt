@@ -1,8 +1,8 @@
 -- Demand 3: one statement about every list of requests from the fresh state, of any engine. It uses of the engine only the answers that it gave
 -- and what is read off the state: balances, tickets and the residue, as document 01 has it, the supply that refusal 14 looks at, and that a
 -- refusal leaves the whole state.
--- It does not look at blocks, phases, which code refuses, the prices of matches and bids within the tickets' limits, a maker's bound, and the
--- numbers that the kinds 1, 2, 3, 5, 6 and 9 and the first that a bid answers: the calls' own definitions fix those. So an engine that refuses
+-- It does not look at blocks, phases, which code refuses, the prices of matches and bids within the tickets' limits, a maker's bound, the numbers
+-- that kinds 1, 2, 3, 5, 6 and 9 answer, cancel's second and a bid's first: the calls' own definitions fix those. So an engine that refuses
 -- every call meets it.
 use Prim.Native.Nat.{ℕ, suc, _+_, _-_, _≤_, _<_}
 use mathlib.Core.Path.{_≡_}
@@ -29,7 +29,7 @@ use Rattle.model.specs.Sides.{offered, wanted}
 use Rattle.model.specs.State.{balance, supply, residue, ticket, freeTicket, restingOr, freshExchange}
 use Rattle.model.specs.Answers.{answerLine}
 use Rattle.model.specs.Run.{Request, Engine, requestOf, eventsOf, stateAfter}
-use Rattle.model.specs.History.{PlacedOrder, no-order, placed, Part, absent, waiting, claimed, settled, RoundLog, Current, idle, running, T, P, G, cameIn, wentOut, holds, ticketCount, Payout, EndedRound, History, historyOf}
+use Rattle.model.specs.History.{OrderTerms, PlacedOrder, no-order, placed, Part, absent, waiting, claimed, settled, RoundLog, Current, idle, running, T, P, G, cameIn, wentOut, holds, ticketCount, Payout, EndedRound, History, historyOf}
 
 -- ---- read off the state
 
@@ -49,17 +49,21 @@ restingTotal ts t = sumTo 64 (λ k. restingIn (getD ts k freeTicket .state) t)
 abbrev pub resting : Exchange → ℕ → ℕ
 resting x t = restingTotal (x .tickets) t
 
+-- the terms of an order, as history tells them
+abbrev pub termsOf : Order → OrderTerms
+termsOf o = record { member = o .member; side = o .side; limit = o .limit .0 }
+
 -- the part with which a ticket is in market n's round
 abbrev pub enteredIn : TicketState → ℕ → Part
 enteredIn Free n = absent
 enteredIn (Resting o) n = absent
-enteredIn (Entered o) n = cond (eqb n (o .market)) (waiting (o .member) (o .side) (o .limit .0) (o .offer .0)) absent
+enteredIn (Entered o) n = cond (eqb n (o .market)) (waiting (termsOf o) (o .offer .0)) absent
 
 -- the order of a ticket in use, as history tells it
 abbrev pub placedIn : TicketState → PlacedOrder
 placedIn Free = no-order
-placedIn (Resting o) = placed (o .member) (o .market) (o .side) (o .limit .0) (o .offer .0)
-placedIn (Entered o) = placed (o .member) (o .market) (o .side) (o .limit .0) (o .offer .0)
+placedIn (Resting o) = placed (termsOf o) (o .market) (o .offer .0)
+placedIn (Entered o) = placed (termsOf o) (o .market) (o .offer .0)
 
 -- ---- worked from history
 
@@ -68,11 +72,11 @@ abbrev pub partIn : Current → ℕ → Part
 partIn idle k = absent
 partIn (running b) k = b .part k
 
--- a part that waits for its claim; one that was claimed is over
-abbrev pub atWork : Part → Part
-atWork absent = absent
-atWork (waiting member side limit o) = waiting member side limit o
-atWork (claimed member side limit o s got) = absent
+-- a part that is still unclaimed; one that was claimed is over
+abbrev pub unclaimed : Part → Part
+unclaimed absent = absent
+unclaimed (waiting terms o) = waiting terms o
+unclaimed (claimed terms o s got) = absent
 
 -- what a market's round holds of token t
 abbrev pub holdsOf : ℕ → RoundLog → ℕ → ℕ
@@ -102,14 +106,21 @@ pub data All {A : Type 0} (Q : A → Type 0) : List A → Type 0 where
 
 -- the limit rule: a claim gets at least what one unit less than it paid fetches at its limit
 pub record LimitKept (p : Payout) : Type 0 where
-  pub kept : fetches (p .side) (p .limit) (p .s - 1) ≤ p .got
+  pub kept : fetches (p .terms .side) (p .terms .limit) (p .s - 1) ≤ p .got
+
+-- "Its full share is claim's s and got from these numbers": of an order with these terms and offer o
+abbrev pub paidBy : RoundLog → OrderTerms → ℕ → ℕ
+paidBy b terms o = sharePaid o (P b (terms .side)) (T b (terms .side))
+
+abbrev pub gotBy : RoundLog → OrderTerms → ℕ → ℕ
+gotBy b terms o = shareGot o (G b (terms .side)) (T b (terms .side))
 
 -- a round never pays out more than came in, and every claim of it was its full share
 pub record RoundPays (b : RoundLog) : Type 0 where
   pub covered : (side : Side) → wentOut b side ≤ cameIn b side
   pub shares :
-      (k : ℕ) → k < 64 → (member : ℕ) (side : Side) (limit o s got : ℕ) → b .part k ≡ claimed member side limit o s got
-      → (s ≡ sharePaid o (P b side) (T b side)) × (got ≡ shareGot o (G b side) (T b side))
+      (k : ℕ) → k < 64 → (terms : OrderTerms) (o s got : ℕ) → b .part k ≡ claimed terms o s got
+      → (s ≡ paidBy b terms o) × (got ≡ gotBy b terms o)
 
 -- a round that ended leaves fewer units of each token than it had tickets, and nothing where it had none
 pub record EndedWell (e : EndedRound) : Type 0 where
@@ -118,16 +129,18 @@ pub record EndedWell (e : EndedRound) : Type 0 where
   pub nothing-put : ticketCount (e .log) ≡ 0 → (t : ℕ) → putBy t e ≡ 0
 
 -- "A ticket is settled from its round's settle until its own claim"
-pub record SettledTicket (y : History) (k member market : ℕ) (side : Side) (limit o : ℕ) (b : RoundLog) : Type 0 where
+pub record SettledTicket (y : History) (k : ℕ) (terms : OrderTerms) (market o : ℕ) (b : RoundLog) : Type 0 where
   pub ticket-range : k < 64
   pub market-low : 0 < market
   pub market-high : market < 4
   pub round : y .rounds market ≡ running b
   pub stage : b .stage ≡ settled
-  pub part : b .part k ≡ waiting member side limit o
+  pub part : b .part k ≡ waiting terms o
 
-abbrev pub orderWith : (member market : ℕ) (side : Side) (limit o : ℕ) → Order
-orderWith member market side limit o = record { member = member; market = market; side = side; limit = price limit; offer = amount o }
+-- the order with these terms, market and offer
+abbrev pub orderWith : (terms : OrderTerms) (market o : ℕ) → Order
+orderWith terms market o =
+    record { member = terms .member; market = market; side = terms .side; limit = price (terms .limit); offer = amount o }
 
 -- "paying it out leaves o - s with the ticket and adds got to its member's balance": an outcome that answers s and got and does just that
 pub record PaysOut (x : Exchange) (k : ℕ) (o : Order) (s got : ℕ) (out : Outcome) : Type 0 where
@@ -140,34 +153,54 @@ pub record PaysOut (x : Exchange) (k : ℕ) (o : Order) (s got : ℕ) (out : Out
   pub payment : (t : ℕ) → t < 4 → balance (out .exchange) (o .member) t ≡ balance x (o .member) t + only (wanted (o .side) (o .market)) got t
   pub other-balances : (m t : ℕ) → (m ≡ o .member → ⊥) → balance (out .exchange) m t ≡ balance x m t
 
--- what holds after a list, of the engine, the state that it left and the history of its answers
-pub record Whole (f : Engine) (x : Exchange) (y : History) : Type 0 where
+-- the state and history agree: of amounts
+pub record BooksAgree (x : Exchange) (y : History) : Type 0 where
   -- conservation, per token
   pub conserved : (t : ℕ) → t < 4 → balances x t + resting x t + inRounds y t + residue x t + y .withdrawn t ≡ y .deposited t
   -- what refusal 14 looks at is the accepted deposits less the accepted withdrawals
   pub supplied : (t : ℕ) → t < 4 → supply x t + y .withdrawn t ≡ y .deposited t
   -- every member's balance is what accepted calls brought to it less what they took from it
   pub accounts : (m : ℕ) → m < 16 → (t : ℕ) → t < 4 → balance x m t + y .debits m t ≡ y .credits m t
+
+-- of tickets
+pub record TicketsAgree (tickets : ℕ → TicketState) (orders : ℕ → PlacedOrder) (rounds : ℕ → Current) : Type 0 where
   -- every ticket's order is the one placed there, with its amount less the s of its claims
-  pub tickets-are : (k : ℕ) → k < 64 → placedIn (ticket x k) ≡ y .orders k
+  pub tickets-are : (k : ℕ) → k < 64 → placedIn (tickets k) ≡ orders k
   -- and a ticket is in just the round in which it waits
-  pub places-are : (k : ℕ) → k < 64 → (n : ℕ) → 0 < n → n < 4 → enteredIn (ticket x k) n ≡ atWork (partIn (y .rounds n) k)
+  pub places-are : (k : ℕ) → k < 64 → (n : ℕ) → 0 < n → n < 4 → enteredIn (tickets k) n ≡ unclaimed (partIn (rounds n) k)
+
+-- of rounds that run
+pub record RoundsPay (rounds : ℕ → Current) : Type 0 where
   -- a running round can pay what it owes, and has paid each claim its full share
-  pub solvent : (n : ℕ) → 0 < n → n < 4 → (b : RoundLog) → y .rounds n ≡ running b → RoundPays b
+  pub solvent : (n : ℕ) → 0 < n → n < 4 → (b : RoundLog) → rounds n ≡ running b → RoundPays b
+
+-- of the past: rounds that ended, and claims
+pub record PastAgrees (residue : ℕ → ℕ) (ended : List EndedRound) (payouts : List Payout) : Type 0 where
+  -- "The tray read off the house equals the sum of what rounds put there so", each fewer units of a token than it had tickets
+  pub residue-is : (t : ℕ) → t < 4 → residue t ≡ sumOver (putBy t) ended
+  pub ended-well : All EndedWell ended
+  -- the limit rule
+  pub limits : All LimitKept payouts
+
+-- of the engine, in this state and with this history
+pub record EngineKeeps (f : Engine) (x : Exchange) (y : History) : Type 0 where
   -- a request that is refused leaves the state
   pub refused-stays : (q : Request) (why : Refusal) → f x q .answer ≡ Refused why → f x q .exchange ≡ x
   -- every settled ticket's claim, with room for its line, is accepted and pays its full share, worked from history
   pub settled-pays :
-      (k member market : ℕ) (side : Side) (limit o : ℕ) (b : RoundLog) → SettledTicket y k member market side limit o b
-      → (y .orders k ≡ placed member market side limit o)
-      × ((line room : ℕ) → length (answerLine line (Accepted (sharePaid o (P b side) (T b side)) (shareGot o (G b side) (T b side)))) ≤ room
-      → PaysOut x k (orderWith member market side limit o) (sharePaid o (P b side) (T b side)) (shareGot o (G b side) (T b side))
+      (k : ℕ) (terms : OrderTerms) (market o : ℕ) (b : RoundLog) → SettledTicket y k terms market o b
+      → (y .orders k ≡ placed terms market o)
+      × ((line room : ℕ) → length (answerLine line (Accepted (paidBy b terms o) (gotBy b terms o))) ≤ room
+      → PaysOut x k (orderWith terms market o) (paidBy b terms o) (gotBy b terms o)
       (f x (record { line = line; room = room; call = Call.Claim k })))
-  -- "The tray read off the house equals the sum of what rounds put there so", each fewer units of a token than it had tickets
-  pub residue-is : (t : ℕ) → t < 4 → residue x t ≡ sumOver (putBy t) (y .ended)
-  pub ended-well : All EndedWell (y .ended)
-  -- the limit rule
-  pub limits : All LimitKept (y .payouts)
+
+-- what holds after a list, of the engine, the state that it left and the history of its answers
+pub record Whole (f : Engine) (x : Exchange) (y : History) : Type 0 where
+  pub books : BooksAgree x y
+  pub tickets : TicketsAgree (ticket x) (y .orders) (y .rounds)
+  pub rounds : RoundsPay (y .rounds)
+  pub past : PastAgrees (residue x) (y .ended) (y .payouts)
+  pub engine : EngineKeeps f x y
 
 -- the statement, of any engine
 abbrev pub WholeRunOf : Engine → Type 0

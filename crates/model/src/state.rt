@@ -17,7 +17,7 @@ pub struct Order {
     pub offer: Amount,
 }
 
-// "A ticket is free, resting, or in a round, and one in use carries its order."
+// "A ticket is free, resting, or in a round, and one in use carries its order".
 pub enum TicketState {
     Free,
     Resting(Order),

@@ -4,6 +4,7 @@ use mathlib.Core.Path.{_≡_, refl}
 use native.Mathlib.Nat.{le-antisymm, le-of-mul-le-mul-left, mul-le-mul, mul-le-mul-left, mul-zero, zero-mul}
 use native.Mathlib.Omega.{arith}
 use lib.Dec.{lit<}
+use Rattle.units.specs.Ranges.{highestBound, highestReference, highestSlack}
 use Rattle.pricing.specs.Laws.{Moves, PricesWithin}
 use Rattle.pricing.specs.Prices.{auctionPrice, highBound, lowBound}
 use Rattle.pricing.specs.declared.Side.{Side}
@@ -35,14 +36,14 @@ unfolding highBound
 le-high r w = le-down (r * (million + w)) million r million-pos (omega arith)
 
 -- the high bound of any reference price and slack that open takes
-pub high-le : (r w : ℕ) → r ≤ 1000000000 → w ≤ 500000 → highBound r w ≤ 1500000000
+pub high-le : (r w : ℕ) → r ≤ highestReference → w ≤ highestSlack → highBound r w ≤ highestBound
 unfolding highBound
 high-le r w h g =
-    let p : r * (million + w) ≤ 1000000000 * 1500000 = mul-le-mul {n₂ = 1000000000} {m₂ = 1500000} h (omega arith) in
+    let p : r * (million + w) ≤ highestReference * 1500000 = mul-le-mul {n₂ = highestReference} {m₂ = 1500000} h (omega arith) in
     omega (arith, down-low (r * (million + w)) million)
 
 -- the low bound is never 0
-pub low-pos : (r w : ℕ) → 1 ≤ r → w ≤ 500000 → 1 ≤ lowBound r w
+pub low-pos : (r w : ℕ) → 1 ≤ r → w ≤ highestSlack → 1 ≤ lowBound r w
 unfolding lowBound
 low-pos r w h g =
     let p : 1 * 500000 ≤ r * (million - w) = mul-le-mul {n₁ = 1} {m₁ = 500000} {n₂ = r} {m₂ = million - w} h (omega arith) in

@@ -1,7 +1,10 @@
 // Prices and shares of a round: bounds, the trade within, auction prices, quotes, and a ticket's share.
 ghost use mathlib.Core.Path.{_≡_};
-ghost use Prim.Native.Nat.{_≤_, min};
-ghost use Rattle.units.specs.Counts.{price};
+ghost use Prim.Native.Nat.{_*_, _≤_, min};
+ghost use lib.Dec.{eqb, ltb};
+ghost use Rattle.units.specs.Ranges.{highestReference, highestSlack};
+ghost use Rattle.units.specs.Counts.{price, largest, million};
+ghost use Rattle.units.specs.Rounding.{down, up};
 ghost use Rattle.pricing.specs.Prices.{
   highBound,
   lowBound,
@@ -15,6 +18,9 @@ use units::Price;
 use units::part_down;
 use units::part_up;
 use units::product;
+
+// A price counts millionths.
+const MILLION: u32 = 1_000_000;
 
 // The side of an order: a buy (0) offers quote, a sell (1) offers base.
 pub enum Side {
@@ -41,29 +47,89 @@ pub struct Share {
     pub got: Amount,
 }
 
+// The quote for some base. It can pass 32 bits, so it is an amount only where it is known to be one.
+pub struct Quote(pub u64);
+
+impl Quote {
+    // Whether there is nothing.
+    pub fn is_zero(self) -> bool
+        ensures { λ r. ⌜ r ≡ eqb (self .0) 0 ⌝ }
+    {
+        self.0 == 0
+    }
+
+    // Whether it is less than an amount.
+    pub fn below(self, a: Amount) -> bool
+        ensures { λ r. ⌜ r ≡ ltb (self .0) (a .0) ⌝ }
+    {
+        self.0 < (a.0 as u64)
+    }
+
+    // Whether it is more than an amount.
+    pub fn above(self, a: Amount) -> bool
+        ensures { λ r. ⌜ r ≡ ltb (a .0) (self .0) ⌝ }
+    {
+        (a.0 as u64) < self.0
+    }
+
+    // The same quote as an amount, where it is one.
+    pub fn to_amount(self) -> Amount
+        requires { ⌜ self .0 ≤ largest ⌝ }
+        ensures { λ r. ⌜ r .0 ≡ self .0 ⌝ }
+    {
+        Amount(self.0 as u32)
+    }
+}
+
 // The functions below are public for the crates above. They ask what an open round's numbers keep.
 
 // A round's high bound, from the reference price and the slack in millionths.
 pub fn high_bound(reference: Price, slack: u32) -> Price
-    requires { ⌜ (reference .0 ≤ 1000000000) × (slack ≤ 500000) ⌝ }
+    requires { ⌜ (reference .0 ≤ highestReference) × (slack ≤ highestSlack) ⌝ }
     ensures { λ p. ⌜ p ≡ price (highBound (reference .0) slack) ⌝ }
 {
-    Price(part_down(reference.0, 1_000_000 + slack, 1_000_000) as u32)
+    Price(part_down(reference.0, MILLION + slack, MILLION) as u32)
 }
 
 // A round's low bound.
 pub fn low_bound(reference: Price, slack: u32) -> Price
-    requires { ⌜ (reference .0 ≤ 1000000000) × (slack ≤ 500000) ⌝ }
+    requires { ⌜ (reference .0 ≤ highestReference) × (slack ≤ highestSlack) ⌝ }
     ensures { λ p. ⌜ p ≡ price (lowBound (reference .0) slack) ⌝ }
 {
-    Price(part_up(reference.0, 1_000_000 - slack, 1_000_000) as u32)
+    Price(part_up(reference.0, MILLION - slack, MILLION) as u32)
 }
 
-// The smaller of two.
-fn smaller(a: u64, b: u64) -> u64
-    ensures { λ r. ⌜ r ≡ min a b ⌝ }
+// The quote for n base at a price, rounded down.
+fn quote_down(n: Amount, p: Price) -> Quote
+    ensures { λ q. ⌜ q .0 ≡ down (n .0 * p .0) million ⌝ }
 {
-    if a < b { a } else { b }
+    Quote(part_down(n.0, p.0, MILLION))
+}
+
+// And rounded up.
+fn quote_up(n: Amount, p: Price) -> Quote
+    ensures { λ q. ⌜ q .0 ≡ up (n .0 * p .0) million ⌝ }
+{
+    Quote(part_up(n.0, p.0, MILLION))
+}
+
+// The base that q quote fetches at a price, rounded down, and no more than most.
+fn base_within(q: Amount, p: Price, most: Amount) -> Amount
+    requires { ⌜ 1 ≤ p .0 ⌝ }
+    ensures { λ m. ⌜ m .0 ≡ min (most .0) (down (q .0 * million) (p .0)) ⌝ }
+{
+    let fetched = part_down(q.0, MILLION, p.0);
+    if (most.0 as u64) < fetched {
+        return most;
+    }
+    Amount(fetched as u32)
+}
+
+// Whether quote for base is above a price.
+fn dearer(quote: Amount, base: Amount, p: Price) -> bool
+    ensures { λ b. ⌜ b ≡ ltb (p .0 * base .0) (quote .0 * million) ⌝ }
+{
+    product(p.0, base.0) < product(quote.0, MILLION)
 }
 
 // What buys of q quote and sells of s base trade at the reference price.
@@ -71,18 +137,15 @@ pub fn trade_within(q: Amount, s: Amount, reference: Price, hi: Price) -> Trade
     requires { ⌜ 1 ≤ reference .0 ⌝ }
     ensures { λ t. ⌜ t ≡ tradeWithin (q .0) (s .0) (reference .0) (hi .0) ⌝ }
 {
-    let m = smaller(s.0 as u64, part_down(q.0, 1_000_000, reference.0)) as u32;
-    let c = part_up(m, reference.0, 1_000_000) as u32;
-    if product(hi.0, m) < product(c, 1_000_000) {
+    let base = base_within(q, reference, s);
+    let quote = quote_up(base, reference).to_amount();
+    if dearer(quote, base, hi) {
         return Trade {
             base: Amount(0),
             quote: Amount(0),
         };
     }
-    Trade {
-        base: Amount(m),
-        quote: Amount(c),
-    }
+    Trade { base, quote }
 }
 
 // The price k blocks into an auction of length blocks, of what a side's orders left.
@@ -97,13 +160,13 @@ pub fn auction_price(side: Side, hi: Price, lo: Price, k: u32, length: u32) -> P
     }
 }
 
-// The quote for n base at a price: what a maker pays for what sells left, or gets of what buys left. It can pass 32 bits.
-pub fn quote_for(side: Side, n: Amount, p: Price) -> u64
-    ensures { λ r. ⌜ r ≡ quoteFor side (n .0) (p .0) ⌝ }
+// The quote for n base at a price: what a maker pays for what sells left, or gets of what buys left.
+pub fn quote_for(side: Side, n: Amount, p: Price) -> Quote
+    ensures { λ q. ⌜ q .0 ≡ quoteFor side (n .0) (p .0) ⌝ }
 {
     match side {
-        Side::Buy => part_down(n.0, p.0, 1_000_000),
-        Side::Sell => part_up(n.0, p.0, 1_000_000),
+        Side::Buy => quote_down(n, p),
+        Side::Sell => quote_up(n, p),
     }
 }
 

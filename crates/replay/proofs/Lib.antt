@@ -1,4 +1,5 @@
 pub mod LineRun
 pub mod StreamLaws
+pub mod FeedLaws
 pub mod DayText
 pub mod Examples

@@ -21,11 +21,10 @@ use Rattle.model.specs.declared.answer.Refusal.the-variants.{MalformedLine, Buf
 use Rattle.model.specs.declared.call.Call.the-variants.{Claim}
 use Rattle.model.specs.Answers.{answerLine}
 use Rattle.model.specs.Calls.{refuse}
-use Rattle.pricing.specs.Prices.{sharePaid, shareGot}
 use Rattle.model.specs.State.{freshExchange}
 use Rattle.model.specs.Run.{Reachable, after-call, Request, fitted, requestOf, eventsOf, stateAfter, Event}
-use Rattle.model.specs.History.{History, historyOf, T, P, G}
-use Rattle.model.specs.WholeRun.{Whole, PaysOut, orderWith}
+use Rattle.model.specs.History.{History, historyOf}
+use Rattle.model.specs.WholeRun.{Whole, PaysOut, gotBy, orderWith, paidBy}
 use Rattle.model.proofs.WholeRun.{whole-run}
 use Rattle.lines.specs.declared.call.Reading.{Reading}
 use Rattle.lines.specs.declared.call.Reading.the-variants.{Read, NoCall}
@@ -49,9 +48,9 @@ unfolding lineOutcome
 reachable-line x l line = reachable-reading x l (readingOf line)
 
 -- the outcome worked out of what was read is the line's
-pub told : (x : Exchange) (line : List ℕ) (r : Reading) (o : Outcome) → r ≡ readingOf line → o ≡ outcomeOf x r → o ≡ lineOutcome x line
+pub line-outcome-is : (x : Exchange) (line : List ℕ) (r : Reading) (o : Outcome) → r ≡ readingOf line → o ≡ outcomeOf x r → o ≡ lineOutcome x line
 unfolding lineOutcome
-told x line r o e f = f ∙ ap (outcomeOf x) e
+line-outcome-is x line r o e f = f ∙ ap (outcomeOf x) e
 
 -- the request that a line with a call is
 abbrev asRequest : LineRequest → Call → Request
@@ -87,43 +86,17 @@ module _ (x : Exchange) (q : LineRequest) where
   unfolding lineRequestOf lineText
   line-fits h = rw (le-ltb _ _ h)
 
--- ---- what taking it answers
-
-module _ (x : Exchange) (n : ℕ) (l : List ℕ) (room : ℕ) where
-  taken-none : room < length (lineText x n l) → takenOf x n l room .answered .used ≡ 0
-  unfolding takenOf
-  taken-none h = rw (lt-ltb _ _ h)
-
-  taken-all : length (lineText x n l) ≤ room → takenOf x n l room .answered .used ≡ length (lineText x n l)
-  unfolding takenOf
-  taken-all h = rw (le-ltb _ _ h)
-
-  pub taken-moved : length (lineText x n l) ≤ room → takenOf x n l room .exchange ≡ lineOutcome x l .exchange
-  unfolding takenOf
-  taken-moved h = ap (λ (o : Outcome). o .exchange) (line-fits x (record { number = n; room = room; line = l }) h)
-
-  some-text : 0 < length (lineText x n l)
-  unfolding lineText
-  some-text = answer-pos n (lineOutcome x l .answer)
-
-  -- 0 bytes tell that its answer did not fit
-  pub taken-short : (t : Taken) → t ≡ takenOf x n l room → t .answered .used ≡ 0 → room < length (lineText x n l)
-  taken-short t is e =
-      by-order room (length (lineText x n l)) (λ h. h) (λ h. absurd (ne-of-gt some-text (sym (taken-all h) ∙ sym (ap (λ (r : Taken). r .answered .used) is) ∙ e)))
-
-  pub taken-fits : (t : Taken) → t ≡ takenOf x n l room → (t .answered .used ≡ 0 → ⊥) → (length (lineText x n l) ≤ room) × (t .answered .used ≡ length (lineText x n l))
-  taken-fits t is z =
-      by-order room (length (lineText x n l))
-      (λ h. absurd (z (ap (λ (r : Taken). r .answered .used) is ∙ taken-none h)))
-      (λ h. (h, ap (λ (r : Taken). r .answered .used) is ∙ taken-all h))
-
 -- ---- a line taken: o is its outcome, used and ys what writing its answer into xs answered and left
 
+pub some-text : (x : Exchange) (n : ℕ) (l : List ℕ) → 0 < length (lineText x n l)
+unfolding lineText
+some-text x n l = answer-pos n (lineOutcome x l .answer)
+
 -- how much was written tells whether it fits
-count-none : (xs t : List ℕ) → 0 < length t → putCount xs t ≡ 0 → length xs < length t
+pub count-none : (xs t : List ℕ) → 0 < length t → putCount xs t ≡ 0 → length xs < length t
 count-none xs t p e = by-order (length xs) (length t) (λ h. h) (λ h. absurd (ne-of-gt p (sym (count-fits xs t h) ∙ e)))
 
-count-some : (xs t : List ℕ) → (putCount xs t ≡ 0 → ⊥) → length t ≤ length xs
+pub count-some : (xs t : List ℕ) → (putCount xs t ≡ 0 → ⊥) → length t ≤ length xs
 count-some xs t z = by-order (length xs) (length t) (λ h. absurd (z (count-short xs t h))) (λ h. h)
 
 module _ (x : Exchange) (n : ℕ) (l xs : List ℕ) (o : Outcome) (is : o ≡ lineOutcome x l) where
@@ -145,7 +118,7 @@ module _ (x : Exchange) (n : ℕ) (l xs : List ℕ) (o : Outcome) (is : o ≡ li
     unfolding takenOf
     take-short e =
         let q : LineRequest = record { number = n; room = length xs; line = l } in
-        let short : length xs < length (lineText x n l) = count-none xs (lineText x n l) (some-text x n l (length xs)) (sym counted ∙ e) in
+        let short : length xs < length (lineText x n l) = count-none xs (lineText x n l) (some-text x n l) (sym counted ∙ e) in
         sym (rw (line-short x q short, lt-ltb _ _ short))
 
     pub take-fits : (used ≡ 0 → ⊥) → _≡_ {A = Taken} (record { answered = record { answer = o .answer; used = used }; exchange = o .exchange }) (takenOf x n l (length xs))
@@ -211,7 +184,7 @@ line-refused x y w q why r =
     by-reading (readingOf (q .line))
     (λ c e.
     let s = line-call x q c e in
-    ap (λ (o : Outcome). o .exchange) s ∙ w .refused-stays (asRequest q c) why (sym (ap (λ (o : Outcome). o .answer) s) ∙ r))
+    ap (λ (o : Outcome). o .exchange) s ∙ w .engine .refused-stays (asRequest q c) why (sym (ap (λ (o : Outcome). o .answer) s) ∙ r))
     (λ e. line-none x q e)
 
 of-lines : (x : Exchange) (y : History) → Whole requestOf x y → WholeOfLines lineRequestOf x y
@@ -219,25 +192,23 @@ of-lines x y w =
     record {
       whole =
           record {
-            conserved = w .conserved;
-            supplied = w .supplied;
-            accounts = w .accounts;
-            tickets-are = w .tickets-are;
-            places-are = w .places-are;
-            solvent = w .solvent;
-            refused-stays = λ q why r. line-refused x y w (record { number = q .line; room = q .room; line = lineOfCall (q .call) }) why r;
-            settled-pays =
-                λ k member market side limit o b t. (
-                  w .settled-pays k member market side limit o b t .0,
-                  λ line room fits.
-                      subst (PaysOut x k (orderWith member market side limit o) (sharePaid o (P b side) (T b side)) (shareGot o (G b side) (T b side)))
-                      (sym (line-call x (record { number = line; room = room; line = lineOfCall (Claim k) }) (Claim k)
-                      (call-round (Claim k) (omega arith, (omega (arith, t .ticket-range), tt)))))
-                      (w .settled-pays k member market side limit o b t .1 line room fits),
-                );
-            residue-is = w .residue-is;
-            ended-well = w .ended-well;
-            limits = w .limits;
+            books = w .books;
+            tickets = w .tickets;
+            rounds = w .rounds;
+            past = w .past;
+            engine =
+                record {
+                  refused-stays = λ q why r. line-refused x y w (record { number = q .line; room = q .room; line = lineOfCall (q .call) }) why r;
+                  settled-pays =
+                      λ k terms market o b t. (
+                        w .engine .settled-pays k terms market o b t .0,
+                        λ line room fits.
+                            subst (PaysOut x k (orderWith terms market o) (paidBy b terms o) (gotBy b terms o))
+                            (sym (line-call x (record { number = line; room = room; line = lineOfCall (Claim k) }) (Claim k)
+                            (call-round (Claim k) (omega arith, (omega (arith, t .ticket-range), tt)))))
+                            (w .engine .settled-pays k terms market o b t .1 line room fits),
+                      );
+                };
           };
       others-stay = λ q e. line-none x q e;
     }

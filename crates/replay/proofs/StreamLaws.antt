@@ -1,6 +1,6 @@
 -- Laws of a stream of bytes: pieces put together, a line within a piece, and the line that is kept.
 use mathlib.Core.Path.{_≡_, refl, sym, ap, _∙_}
-use mathlib.Core.Bool.{true, false, cond}
+use mathlib.Core.Bool.{true, false}
 use mathlib.Core.List.{List, [], _∷_, _++_, append-assoc, append-nil}
 use Prim.Native.Nat.{ℕ, suc, _+_, _≤_, _<_}
 use native.Mathlib.Omega.{arith}
@@ -14,14 +14,14 @@ use Rattle.units.proofs.Cases.{by-test, by-order}
 use Rattle.model.specs.declared.state.Exchange.{Exchange}
 use Rattle.model.specs.declared.answer.Outcome.{Outcome}
 use Rattle.model.specs.Answers.{answerLine}
-use Rattle.model.specs.Run.{Reachable, fitted}
+use Rattle.model.specs.Run.{Reachable}
 use Rattle.fields.proofs.LineLaws.{line-long}
 use Rattle.lines.specs.CallLines.{readingOf, lineIn, lineAt}
 use Rattle.lines.specs.Kept.{keptBytes}
 use Rattle.lines.proofs.KeptLaws.{kept}
 use Rattle.lines.specs.declared.call.LineAt.{LineAt}
 use Rattle.lines.specs.declared.call.Reading.the-variants.{NoCall}
-use Rattle.replay.specs.Lines.{outcomeOf, lineOutcome, lineText, lineRequestOf, takenOf}
+use Rattle.replay.specs.Lines.{outcomeOf, lineOutcome, lineText}
 use Rattle.replay.specs.Days.{lastLine}
 use Rattle.replay.specs.Pieces.{Stream, endLine, nextByte, byteText, after, textOf, StaysReachable}
 use Rattle.replay.proofs.LineRun.{reachable-line}
@@ -49,22 +49,13 @@ same-reading p =
     (λ h. too-long (take 81 p) (omega (arith, length-take-le 81 p (omega arith))) ∙ sym (too-long p (omega arith)))
     (λ h. ap readingOf (take-all 81 p h))
 
-same-outcome : (x : Exchange) (p : List ℕ) → lineOutcome x (take keptBytes p) ≡ lineOutcome x p
+pub same-outcome : (x : Exchange) (p : List ℕ) → lineOutcome x (take keptBytes p) ≡ lineOutcome x p
 unfolding lineOutcome
 same-outcome x p = ap (outcomeOf x) (same-reading p)
 
 pub same-text : (x : Exchange) (n : ℕ) (p : List ℕ) → lineText x n (take keptBytes p) ≡ lineText x n p
 unfolding lineText
 same-text x n p = ap (λ (o : Outcome). answerLine n (o .answer)) (same-outcome x p)
-
-pub same-taken : (x : Exchange) (n : ℕ) (p : List ℕ) (room : ℕ) → takenOf x n (take keptBytes p) room ≡ takenOf x n p room
-unfolding takenOf lineRequestOf lineText
-same-taken x n p room =
-    ap
-    (λ (o : Outcome).
-    let t = answerLine n (o .answer) in
-    record { answered = record { answer = fitted x n room o .answer; used = length (cond (ltb room (length t)) [] t) }; exchange = fitted x n room o .exchange })
-    (same-outcome x p)
 
 -- ---- a stream after the bytes p of a line
 

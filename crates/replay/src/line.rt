@@ -3,7 +3,9 @@ ghost use mathlib.Core.Path.{_≡_};
 ghost use Prim.Native.Nat.{_≤_};
 ghost use lib.ListN.{length};
 ghost use Rattle.decimal.specs.Buffer.{putInto};
+ghost use Rattle.model.specs.Calls.{refuse};
 ghost use Rattle.model.specs.Run.{Reachable};
+ghost use Rattle.model.specs.declared.answer.Refusal.the-variants.{MalformedLine};
 ghost use Rattle.lines.specs.AnswerText.{longestAnswer};
 ghost use Rattle.replay.specs.Lines.{outcomeOf, lineText, takenOf};
 use exchange::step;
@@ -14,7 +16,6 @@ use model::answer::Answer;
 use model::answer::Outcome;
 use model::answer::Refusal;
 use model::state::Exchange;
-use places::refused;
 
 // A line's answer, and how many bytes its answer line took.
 pub struct Answered {
@@ -28,6 +29,16 @@ pub struct Taken {
     pub exchange: Exchange,
 }
 
+// A line that is no call leaves the state (20).
+fn no_call(x: Exchange) -> Outcome
+    ensures { λ r. ⌜ r ≡ refuse x MalformedLine ⌝ }
+{
+    Outcome {
+        answer: Answer::Refused(Refusal::MalformedLine),
+        exchange: x,
+    }
+}
+
 // What a line that was read does.
 pub fn outcome_of(x: Exchange, reading: Reading) -> Outcome
     requires { ⌜ Reachable x ⌝ }
@@ -35,7 +46,7 @@ pub fn outcome_of(x: Exchange, reading: Reading) -> Outcome
 {
     match reading {
         Reading::Read(c) => step(x, c),
-        Reading::NoCall => refused(x, Refusal::MalformedLine),
+        Reading::NoCall => no_call(x),
     }
 }
 

@@ -1,20 +1,32 @@
 // Readers of a side, of its totals and tokens, and of the places that a ticket's order names. Token 0 is the quote, and market n's base is token n.
 // Public for the crates above.
 ghost use mathlib.Core.Path.{_≡_};
-ghost use Rattle.model.specs.Sides.{sideOf, offered, wanted};
+ghost use Rattle.units.specs.Counts.{amount};
+ghost use Rattle.model.specs.Sides.{sideOf, bySide, offered, wanted};
 ghost use Rattle.model.specs.State.{totalsOf};
-ghost use Rattle.model.specs.Parts.{ticketMarket, ticketMember};
+ghost use Rattle.parts.specs.Parts.{ticketMarket, ticketMember};
 use model::state::Round;
 use model::state::Ticket;
 use model::state::TicketState;
 use pricing::Side;
 use pricing::Totals;
+use units::Amount;
 
 // The side of a field that is 0 or 1.
 pub fn side_of(side: u32) -> Side
     ensures { λ r. ⌜ r ≡ sideOf side ⌝ }
 {
     if side == 0 { Side::Buy } else { Side::Sell }
+}
+
+// The first for buys, the second for sells.
+pub fn by_side(side: Side, a: Amount, b: Amount) -> Amount
+    ensures { λ r. ⌜ r ≡ amount (bySide side (a .0) (b .0)) ⌝ }
+{
+    match side {
+        Side::Buy => a,
+        Side::Sell => b,
+    }
 }
 
 // The token that a side of a market offers.

@@ -7,15 +7,15 @@ use Rattle.ticket_set.specs.declared.Next.{Next}
 use Rattle.ticket_set.specs.declared.Next.the-variants.{At, Nothing}
 use Rattle.ticket_set.specs.TicketSet.{bit, inserted, removed, countOf, sumOf, nextFrom, nextOf, membersFrom, membersOf}
 
-abbrev pub told : ℕ → Next × ℕ × ℕ
-told s = (nextOf s, countOf s, sumOf s (λ k. k))
+abbrev pub readings : ℕ → Next × ℕ × ℕ
+readings s = (nextOf s, countOf s, sumOf s (λ k. k))
 
 pub member-examples : map membersOf (0 ∷ inserted (2 ^ 63) 40 ∷ removed 11 0 ∷ []) ≡ [] ∷ (40 ∷ 63 ∷ []) ∷ (1 ∷ 3 ∷ []) ∷ []
 unfolding bit inserted removed membersFrom membersOf
 member-examples = refl
 
 pub examples
-    : map told (0 ∷ (inserted (2 ^ 63) 40) ∷ (removed 11 0) ∷ (2 ^ 64 - 1) ∷ [])
+    : map readings (0 ∷ (inserted (2 ^ 63) 40) ∷ (removed 11 0) ∷ (2 ^ 64 - 1) ∷ [])
     ≡ (Nothing, 0, 0) ∷ (At 40, 2, 103) ∷ (At 1, 2, 4) ∷ (At 0, 64, 2016) ∷ []
 unfolding bit inserted removed countOf sumOf nextFrom nextOf sumTo
 examples = refl

@@ -2,3 +2,4 @@ pub mod Rounding
 pub mod Sums
 pub mod Decide
 pub mod Cases
+pub mod Counts

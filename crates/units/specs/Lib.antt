@@ -1,4 +1,5 @@
 pub mod Counts
+pub mod Ranges
 pub mod Rounding
 pub mod Sums
 pub mod Decide

@@ -5,10 +5,9 @@ use mathlib.Core.List.{List, [], _∷_, _++_, append-assoc, append-nil}
 use Prim.Native.Nat.{ℕ, zero, suc, _+_, _-_, _≤_, _<_}
 use native.Mathlib.Omega.{arith}
 use native.Mathlib.Nat.{not-le-of-lt, not-suc-le-zero, pos-of-ne-zero}
-use native.Mathlib.Numerals.{add-one}
 use lib.Dec.{eqb}
-use lib.ListN.{length, take, drop, set, getD, length-append, length-take, length-drop, take-append-drop, drop-of-length-le}
-use lib.Seq.{take-add, take-all, take-suc, drop-cons, append-snoc, set-at, length-take-le}
+use lib.ListN.{length, take, drop, length-append, length-take, length-drop, take-append-drop, drop-of-length-le}
+use lib.Seq.{take-add, take-all}
 use borrow.Author.Tests.{lt-ltb, eqb-true}
 use Rattle.decimal.specs.Buffer.{putAt, putInto}
 use Rattle.decimal.proofs.Put.{put-fits, put-part, part-all, Run, run-more}
@@ -22,7 +21,7 @@ use Rattle.replay.specs.Days.{dayOf, lastLine}
 use Rattle.replay.specs.Pieces.{Stream, start, nextByte, byteText, after, textOf, lastBytes, endText, streamOf, Advanced, firstLine, FedBy}
 use Rattle.replay.proofs.StreamLaws.{text-append, over-text, next-piece, after-reachable}
 use Rattle.replay.proofs.DayText.{any-cutting}
-use Rattle.stream_parts.proofs.FeedLaws.{some-begun}
+use Rattle.replay.proofs.FeedLaws.{some-begun}
 
 -- ---- the day's text, cut after some bytes of the input
 
@@ -173,12 +172,3 @@ module _ (xs t out : List ℕ) (at : ℕ) (run : Run xs 0 t out at) (d : Day) (b
 pub put-length : (xs t : List ℕ) → length t ≤ length xs → length (putAt xs 0 t) ≡ length xs
 unfolding putAt
 put-length xs t h = omega (arith, length-append t (drop (0 + length t) xs), length-drop (0 + length t) xs)
-
--- the next byte of a text
-pub put-next : (xs t : List ℕ) (i : ℕ) → i < length t → i < length xs → set (take i t ++ drop i xs) i (getD t i 0) ≡ take (i + 1) t ++ drop (i + 1) xs
-put-next xs t i h k =
-    rw add-one
-    (ap (λ (l : List ℕ). set (take i t ++ l) i (getD t i 0)) (drop-cons xs i 0 k)
-    ∙ set-at (take i t) _ _ (getD t i 0) i (length-take-le i t (omega arith))
-    ∙ sym (append-snoc (take i t) (getD t i 0) (drop (suc i) xs))
-    ∙ ap (λ (l : List ℕ). l ++ drop (suc i) xs) (sym (take-suc t i 0 h)))

@@ -9,8 +9,8 @@ use lib.Dec.{eqb}
 use lib.ListN.{length, take, length-append, length-take}
 use borrow.Author.Tests.{ltb-false, not-false}
 use Rattle.units.specs.Counts.{largest}
-use Rattle.units.specs.Decide.{Test, decide}
-use Rattle.units.proofs.Decide.{Passed, decided, or-false}
+use Rattle.units.specs.Ranges.{highestReference, highestSlack, longestAuction}
+use Rattle.units.proofs.Decide.{Passed, or-false}
 use Rattle.pricing.specs.declared.Side.{Side}
 use Rattle.pricing.specs.declared.Side.the-variants.{Buy, Sell}
 use Rattle.pricing.proofs.Prices.{high-le, low-le}
@@ -30,18 +30,18 @@ use Rattle.model.specs.declared.call.Call.{Call}
 use Rattle.model.specs.declared.call.Call.the-variants as Call
 use Rattle.model.specs.declared.answer.Answer.{Answer}
 use Rattle.model.specs.declared.answer.Outcome.{Outcome}
-use Rattle.model.specs.declared.answer.Refusal.{Refusal}
 use Rattle.model.specs.Answers.{firstOf, secondOf}
 use Rattle.model.specs.Bounds.{Bounded, PhaseBounds, RoundBounds}
-use Rattle.model.specs.Calls.{bidDone, bidOf, bidQuote, bidTests, notAvailable, cancelDone, cancelOf, cancelTests, claimDone, claimOf, claimTests, depositDone, depositOf, depositTests, enterDone, enterOf, enterTests, matchDone, matchOf, matchTests, openDone, openOf, openTests, orderDone, orderOf, orderTests, outside, above, refuse, settleDone, settleOf, settleTests, withdrawDone, withdrawOf, withdrawTests}
+use Rattle.model.specs.Calls.{bidQuote, doneOf, notAvailable, outside, above, testsOf}
 use Rattle.model.specs.Run.{Reachable, at-first, stepOf}
-use Rattle.model.specs.Sides.{gives, offered, wanted, other, sideOf}
+use Rattle.model.specs.Sides.{gives, offered, wanted, sideOf}
 use Rattle.model.specs.State.{freshExchange, balance, supply, ticket, phase, roundIn, orderIn, totalsOf, isFree, isEntered, isCollect, isAuction, isPaying}
-use Rattle.model.specs.Parts.{ticketMarket}
+use Rattle.parts.specs.Parts.{ticketMarket}
 use Rattle.model.proofs.Frames.{inside, offered-lt}
 use Rattle.model.proofs.Inv.{resting-is, entered-is, collect-is, auction-is, paying-is}
+use Rattle.model.proofs.Steps.{step-apart}
 use Rattle.model.proofs.ReachBounds.{reachable-bounded}
-use Rattle.model.proofs.PartBounds.{enter-bounds, cancel-bounds, pay-bounds}
+use Rattle.parts.proofs.PartBounds.{enter-bounds, cancel-bounds, pay-bounds}
 use Rattle.replay.specs.Lines.{outcomeOf, lineOutcome, lineText}
 use Rattle.replay.specs.Days.{linesOf, answerText, lastLine, dayOf}
 use Rattle.replay.proofs.LineRun.{reachable-line}
@@ -52,10 +52,6 @@ use Rattle.yeldozhym.specs.Room.{RoomsBounded}
 pub record Small (a : Answer) : Type 0 where
   pub first : firstOf a ≤ largest
   pub second : secondOf a ≤ largest
-
-by-tests : (x : Exchange) (ts : List (Test Refusal)) (out : Outcome) → (Passed ts → Small (out .answer)) → Small (decide ts (refuse x) out .answer)
-by-tests x ts out done =
-    decided (refuse x) out (λ (o : Outcome). Small (o .answer)) ts (λ r. record { first = omega arith; second = omega arith }) done
 
 module _ (x : Exchange) (b : Bounded x) where
   -- a balance
@@ -79,65 +75,48 @@ module _ (x : Exchange) (b : Bounded x) where
       let left = ltb-false (r .sells .total .0) (r .sells .paid .0 + n) na in
       (omega (arith, left, rb .total Sell), omega (arith, g, balance-small m 0 hm (omega arith)))
 
-  step-small : (c : Call) → Small (stepOf x c .answer)
-  unfolding stepOf depositOf withdrawOf orderOf cancelOf openOf enterOf matchOf bidOf settleOf claimOf
-  step-small (Call.Deposit m t n) =
-      by-tests x (depositTests x m t n) (depositDone x m t n)
-      (λ p.
+  done-small : (c : Call) → Passed (testsOf x c) → Small (doneOf x c .answer)
+  done-small (Call.Deposit m t n) p =
       let hm = ltb-false 15 m (p .0) in
       let ht = ltb-false 3 t (p .1 .0) in
       let l = ltb-false largest (supply x t + n) (p .1 .1 .1 .0) in
-      record { first = omega (arith, held m t (omega (arith, hm)) (omega (arith, ht)), l); second = omega arith })
-  step-small (Call.Withdraw m t n) =
-      by-tests x (withdrawTests x m t n) (withdrawDone x m t n)
-      (λ p.
+      record { first = omega (arith, held m t (omega (arith, hm)) (omega (arith, ht)), l); second = omega arith }
+  done-small (Call.Withdraw m t n) p =
       let hm = ltb-false 15 m (p .0) in
       let ht = ltb-false 3 t (p .1 .0) in
-      record { first = omega (arith, balance-small m t (omega (arith, hm)) (omega (arith, ht))); second = omega arith })
-  step-small (Call.Order k m mk sd lim n) =
-      by-tests x (orderTests x k m mk sd lim n) (orderDone x k m mk sd lim n)
-      (λ p.
+      record { first = omega (arith, balance-small m t (omega (arith, hm)) (omega (arith, ht))); second = omega arith }
+  done-small (Call.Order k m mk sd lim n) p =
       let hm = ltb-false 15 m (p .0) in
       let r3 = inside mk 1 3 (p .1 .0) in
       let t = offered (sideOf sd) mk in
       let l = ltb-false (balance x m t) n (p .1 .1 .1 .1 .1 .1 .0) in
-      record { first = omega (arith, l, balance-small m t (omega (arith, hm)) (offered-lt (sideOf sd) mk (omega (arith, r3)))); second = omega arith })
-  step-small (Call.Cancel k m) =
-      by-tests x (cancelTests x k m) (cancelDone x k)
-      (λ p.
+      record { first = omega (arith, l, balance-small m t (omega (arith, hm)) (offered-lt (sideOf sd) mk (omega (arith, r3)))); second = omega arith }
+  done-small (Call.Cancel k m) p =
       let hk = ltb-false 63 k (p .1 .0) in
       let o : Order = orderIn (ticket x k) in
       let et : ticket x k ≡ Resting o = resting-is (ticket x k) (or-false (isFree (ticket x k)) (not (eqb (o .member) m)) (p .1 .1 .0) .0) (p .1 .1 .1 .0) in
-      record { first = offer-small k (omega (arith, hk)) o et; second = omega arith })
-  step-small (Call.Open mk at r w len) =
-      by-tests x (openTests x mk at r w len) (openDone x mk at r w len)
-      (λ p.
-      let terms = or-false (outside r 1 1000000000) (above w 500000 || outside len 1 64) (p .1 .0) in
-      let hr = inside r 1 1000000000 (terms .0) in
-      let hw = ltb-false 500000 w (or-false (above w 500000) (outside len 1 64) (terms .1) .0) in
-      record { first = omega (arith, high-le r w (hr .1) hw); second = omega (arith, low-le r w, hr .1) })
-  step-small (Call.Enter k) =
-      by-tests x (enterTests x k) (enterDone x k)
-      (λ p.
+      record { first = offer-small k (omega (arith, hk)) o et; second = omega arith }
+  done-small (Call.Open mk at r w len) p =
+      let terms = or-false (outside r 1 highestReference) (above w highestSlack || outside len 1 longestAuction) (p .1 .0) in
+      let hr = inside r 1 highestReference (terms .0) in
+      let hw = ltb-false highestSlack w (or-false (above w highestSlack) (outside len 1 longestAuction) (terms .1) .0) in
+      record { first = omega (arith, high-le r w (hr .1) hw); second = omega (arith, low-le r w, hr .1) }
+  done-small (Call.Enter k) p =
       let hk : k < 64 = omega (arith, ltb-false 63 k (p .0)) in
       let o : Order = orderIn (ticket x k) in
       let r : Round = roundIn (phase x (o .market)) in
       let et : ticket x k ≡ Resting o = resting-is (ticket x k) (p .1 .0) (p .1 .1 .0) in
       let ep : phase x (o .market) ≡ Collect r = collect-is (phase x (o .market)) (not-false (isCollect (phase x (o .market))) (p .1 .1 .1 .0)) in
       let here : phase x (ticketMarket (ticket x k)) ≡ Collect r = ap (λ (s : TicketState). phase x (ticketMarket s)) et ∙ ep in
-      record { first = enter-bounds x b k hk o r et here .0; second = omega arith })
-  step-small (Call.Match mk at) =
-      by-tests x (matchTests x mk at) (matchDone x mk at)
-      (λ p.
+      record { first = enter-bounds x b k hk o r et here .0; second = omega arith }
+  done-small (Call.Match mk at) p =
       let r3 = inside mk 1 3 (p .0) in
       let r : Round = roundIn (phase x mk) in
       let ep : phase x mk ≡ Collect r = collect-is (phase x mk) (not-false (isCollect (phase x mk)) (p .1 .0)) in
       let rb : RoundBounds r = subst PhaseBounds ep (b .phase-bounds mk (omega (arith, r3)) (omega (arith, r3))) .0 in
       let f = trade-fits (r .buys .total .0) (r .sells .total .0) (r .reference .0) (r .hi .0) (r .lo .0) (rb .terms .order-low) in
-      record { first = omega (arith, f .base-fits, rb .total Sell); second = omega (arith, f .quote-fits, rb .total Buy) })
-  step-small (Call.Bid mk m at sd n bound) =
-      by-tests x (bidTests x mk m at sd n bound) (bidDone x mk m at sd n)
-      (λ p.
+      record { first = omega (arith, f .base-fits, rb .total Sell); second = omega (arith, f .quote-fits, rb .total Buy) }
+  done-small (Call.Bid mk m at sd n bound) p =
       let hm = ltb-false 15 m (p .0) in
       let r3 = inside mk 1 3 (p .1 .0) in
       let r : Round = roundIn (phase x mk) in
@@ -146,18 +125,14 @@ module _ (x : Exchange) (b : Bounded x) where
       let q : ℕ = bidQuote r (sideOf sd) at n in
       let g = ltb-false (balance x m (wanted (sideOf sd) mk)) (gives (sideOf sd) n q) (p .1 .1 .1 .1 .1 .1 .1 .1 .1 .0) in
       let s = bid-small (sideOf sd) mk n q r rb m (omega (arith, hm)) (omega (arith, r3)) (p .1 .1 .1 .1 .1 .1 .1 .0) g in
-      record { first = s .0; second = s .1 })
-  step-small (Call.Settle mk at) =
-      by-tests x (settleTests x mk at) (settleDone x mk at)
-      (λ p.
+      record { first = s .0; second = s .1 }
+  done-small (Call.Settle mk at) p =
       let r3 = inside mk 1 3 (p .0) in
       let r : Round = roundIn (phase x mk) in
       let ep : phase x mk ≡ Auction r = auction-is (phase x mk) (not-false (isAuction (phase x mk)) (p .1 .0)) in
       let rb : RoundBounds r = subst PhaseBounds ep (b .phase-bounds mk (omega (arith, r3)) (omega (arith, r3))) .0 in
-      record { first = omega (arith, rb .paid Buy, rb .total Buy); second = omega (arith, rb .paid Sell, rb .total Sell) })
-  step-small (Call.Claim k) =
-      by-tests x (claimTests x k) (claimDone x k)
-      (λ p.
+      record { first = omega (arith, rb .paid Buy, rb .total Buy); second = omega (arith, rb .paid Sell, rb .total Sell) }
+  done-small (Call.Claim k) p =
       let hk : k < 64 = omega (arith, ltb-false 63 k (p .0)) in
       let o : Order = orderIn (ticket x k) in
       let r : Round = roundIn (phase x (o .market)) in
@@ -167,7 +142,10 @@ module _ (x : Exchange) (b : Bounded x) where
       record {
         first = omega (arith, w .claim .paid, w .claim .offer, w .round .total (o .side));
         second = omega (arith, w .claim .payment, w .balance-fits);
-      })
+      }
+
+  step-small : (c : Call) → Small (stepOf x c .answer)
+  step-small c = step-apart x c (λ (out : Outcome). Small (out .answer)) (λ r. record { first = omega arith; second = omega arith }) (done-small c)
 
 -- ---- answer lines
 

@@ -9,6 +9,7 @@ use lines::answer::header;
 use replay::day::fresh_day;
 use stream::feed;
 use stream::finish;
+use stream::put_text;
 
 // The header's length.
 const HEADER_BYTES: usize = 23;
@@ -78,9 +79,5 @@ fn write_header(out: &mut [u8])
     ensures { λ _. ⌜ now (out .exit) ≡ putAt (now (out .entry)) 0 AnswerText·header ⌝ }
 {
     let first = header();
-    let mut i: usize = 0;
-    while i < HEADER_BYTES {
-        out[i] = first[i];
-        i = i + 1;
-    }
+    put_text(out, &first);
 }

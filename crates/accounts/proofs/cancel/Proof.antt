@@ -1,79 +1,84 @@
 -- `accounts::cancel` meets its contract.
-use mathlib.Core.Path.{sym, ap, ap₂, _∙_, _≡_}
-use Rattle.model.specs.declared.parts.Form.the-variants.{Good}
-use Rattle.model.proofs.ReachBounds.{reachable-bounded}
-use Prim.Native.Nat.{_<_}
-use Rattle.ledger.specs.declared.Row.{Row}
-use Rattle.model.specs.declared.state.Ticket.{Ticket}
-use Rattle.model.specs.Parts.{formOf, cancelForm, cancelOn, putPlaced}
-use Rattle.model.proofs.OnParts.{after-bad, after-good, cancel-places, cancel-on}
-use Rattle.model.proofs.PartBounds.{cancel-bounds}
+use Rattle.accounts.proofs.Laws.{cancel-free, cancel-resting-other, cancel-entered-other, cancel-entered-own, cancel-resting-own}
+use mathlib.Core.Path.{sym, _∙_}
 use native.Mathlib.Omega.{arith}
+use Rattle.model.specs.Sides.{offered}
+use Rattle.model.proofs.Frames.{offered-lt}
+use Rattle.ledger.proofs.Laws.{credit-row-done}
 use borrow.Author.Needs.{needs}
 use Rattle.accounts.proofs.cancel.Statement.{statement}
 use Rattle.accounts.proofs.cancel.Tie as tie
 
--- the form was found good
-formed : (c : tie.After-enum-told) → let a = c .before .before .before .args in formOf (cancelForm (a .ticket) (a .member)) ≡ Good
-formed c = sym (c .before .before .cancel-form .ensures) ∙ c .enum-told .given .1
-
-good : (c : tie.After-enum-told) → let a = c .before .before .before .args in (a .ticket < 64) × (a .member < 16)
-good c = let a = c .before .before .before .args in cancel-places (a .ticket) (a .member) (formed c)
-
-cancel-form-requires : tie.Need-cancel-form-requires
-cancel-form-requires c κs = search needs
-
-enum-known-form : tie.Need-enum-known-form
-enum-known-form c = search needs
+enum-told : tie.Need-enum-told
+enum-told c = search needs
 
 refused-requires : tie.Need-refused-requires
 refused-requires c κs = search needs
 
-enum-told : tie.Need-enum-told
-enum-told c = search needs
+enum-known-state : tie.Need-enum-known-state
+enum-known-state c = search needs
 
-row-of-requires : tie.Need-row-of-requires
-row-of-requires c κs = let g = good c in omega arith
-
-ticket-at-requires : tie.Need-ticket-at-requires
-ticket-at-requires c κs = let g = good (c .before) in omega arith
-
-cancel-requires : tie.Need-cancel-requires
-cancel-requires c κs = let s = c .before .before .before .before .before in
-    let g = good (c .before .before) in
-    rw (
-      c .before .row-of .ensures,
-      c .ticket-at .ensures,
-    )
-    (cancel-bounds (s .args .x) (reachable-bounded (s .args .x) (s .pre)) (s .args .member) (s .args .ticket) (g .1) (g .0))
-
-put-placed-requires : tie.Need-put-placed-requires
-put-placed-requires c κs = let g = good (c .before .before .before) in omega arith
+refused-requires-2 : tie.Need-refused-requires-2
+refused-requires-2 c κs = search needs
 
 returns : tie.Need-returns
-returns c = let a = c .before .before .before .before .before .args in
-    c .refused .ensures
-    ∙ sym (cancel-on (a .x) (a .member) (a .ticket) ∙ after-bad (a .x) _ (sym (c .before .before .before .before .cancel-form .ensures) ∙ c .before .before .form .given .1))
+returns c = let a = c .before .before .before .before .before .before .args in
+    c .refused2 .ensures ∙ sym (cancel-resting-other (a .row) (a .ticket) (a .member) _ (c .before .before .before .before .state .given .1) (c .before .if1 .taken))
+
+offered-token-requires : tie.Need-offered-token-requires
+offered-token-requires c κs = search needs
+
+credit-row-requires : tie.Need-credit-row-requires
+credit-row-requires c κs = search needs
+
+enum-known-state-2 : tie.Need-enum-known-state-2
+enum-known-state-2 c = search needs
+
+refused-requires-3 : tie.Need-refused-requires-3
+refused-requires-3 c κs = search needs
 
 returns-2 : tie.Need-returns-2
-returns-2 c = let a = c .before .before .before .before .before .before .before .args in
-    c .put-placed .ensures
-    ∙ ap (putPlaced (a .x) (a .member) (a .ticket))
-    (c .before .cancel .ensures
-    ∙ ap₂ (λ (row : Row) (t : Ticket). cancelOn row t (a .member)) (c .before .before .before .row-of .ensures) (c .before .before .ticket-at .ensures))
-    ∙ sym (cancel-on (a .x) (a .member) (a .ticket) ∙ after-good (a .x) _ (formed (c .before .before .before .before)))
+returns-2 c = let a = c .before .before .before .before .before .before .args in
+    c .refused3 .ensures ∙ sym (cancel-entered-own (a .row) (a .ticket) (a .member) _ (c .before .before .before .before .state2 .given .1) (c .before .if2 .taken))
+
+refused-requires-4 : tie.Need-refused-requires-4
+refused-requires-4 c κs = search needs
+
+returns-3 : tie.Need-returns-3
+returns-3 c = let a = c .before .before .before .args in
+    c .refused .ensures ∙ sym (cancel-free (a .row) (a .ticket) (a .member) (c .before .enum-told .given .1))
+
+returns-4 : tie.Need-returns-4
+returns-4 c = let a = c .before .before .before .before .before .before .before .before .before .args in
+    let e = c .before .before .before .before .before .before .before .state .given .1 in
+    let o = c .before .before .before .before .before .before .before .state .given .0 .0 in
+    let pre = c .before .before .before .before .before .before .before .before .before .pre o e in
+    rw (
+      c .before .credit-row .ensures,
+      c .before .before .offered-token .ensures,
+      credit-row-done (a .row) (offered (o .side) (o .market)) (o .offer .0) (omega (arith, offered-lt (o .side) (o .market) (pre .0))) (pre .1),
+    )
+    (sym (cancel-resting-own (a .row) (a .ticket) (a .member) o e (c .before .before .before .before .if1 .left)))
+
+returns-5 : tie.Need-returns-5
+returns-5 c = let a = c .before .before .before .before .before .before .args in
+    c .refused4 .ensures ∙ sym (cancel-entered-other (a .row) (a .ticket) (a .member) _ (c .before .before .before .before .state2 .given .1) (c .before .if2 .left))
 
 pub cancel-spec : {M : Type 1} → statement M
 cancel-spec =
     tie.close
     (tie.spec
-    cancel-form-requires
-    enum-known-form
-    refused-requires
     enum-told
-    row-of-requires
-    ticket-at-requires
-    cancel-requires
-    put-placed-requires
+    refused-requires
+    enum-known-state
+    refused-requires-2
     returns
-    returns-2)
+    offered-token-requires
+    credit-row-requires
+    enum-known-state-2
+    refused-requires-3
+    returns-2
+    refused-requires-4
+    returns-3
+    returns-4
+    returns-5)

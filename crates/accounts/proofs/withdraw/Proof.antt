@@ -1,78 +1,50 @@
 -- `accounts::withdraw` meets its contract.
-use mathlib.Core.Path.{sym, ap, ap₂, _∙_, _≡_}
-use Rattle.model.specs.declared.parts.Form.the-variants.{Good}
-use Rattle.model.proofs.ReachBounds.{reachable-bounded}
-use Prim.Native.Nat.{_<_}
-use Rattle.units.specs.declared.Amount.{Amount}
-use Rattle.ledger.specs.declared.Row.{Row}
-use Rattle.model.specs.Parts.{formOf, bankForm, withdrawOn, putBanked}
-use Rattle.model.proofs.OnParts.{after-bad, after-good, bank-places, withdraw-on}
-use Rattle.model.proofs.PartBounds.{bank-bounds}
+use mathlib.Core.Path.{_∙_}
 use native.Mathlib.Omega.{arith}
+use borrow.Author.Tests.{ltb-false}
+use Rattle.units.proofs.Counts.{below-is}
+use Rattle.ledger.specs.Balances.{cellOf}
+use Rattle.ledger.proofs.Laws.{debit-row-done}
+use Rattle.parts.specs.Parts.{withdrawOn}
 use borrow.Author.Needs.{needs}
 use Rattle.accounts.proofs.withdraw.Statement.{statement}
 use Rattle.accounts.proofs.withdraw.Tie as tie
 
--- the form was found good
-formed : (c : tie.After-enum-told) → let a = c .before .before .before .args in formOf (bankForm (a .member) (a .token) (a .amount)) ≡ Good
-formed c = sym (c .before .before .bank-form .ensures) ∙ c .enum-told .given .1
+cell-of-requires : tie.Need-cell-of-requires
+cell-of-requires c κs = search needs
 
-good : (c : tie.After-enum-told) → let a = c .before .before .before .args in (a .member < 16) × (a .token < 4)
-good c = let a = c .before .before .before .args in bank-places (a .member) (a .token) (a .amount) (formed c)
+below-requires : tie.Need-below-requires
+below-requires c κs = search needs
 
-bank-form-requires : tie.Need-bank-form-requires
-bank-form-requires c κs = search needs
-
-enum-known-form : tie.Need-enum-known-form
-enum-known-form c = search needs
-
-refused-requires : tie.Need-refused-requires
-refused-requires c κs = search needs
-
-enum-told : tie.Need-enum-told
-enum-told c = search needs
-
-row-of-requires : tie.Need-row-of-requires
-row-of-requires c κs = let g = good c in omega arith
-
-supply-at-requires : tie.Need-supply-at-requires
-supply-at-requires c κs = let g = good (c .before) in omega arith
-
-withdraw-requires : tie.Need-withdraw-requires
-withdraw-requires c κs = let s = c .before .before .before .before .before in
-    let g = good (c .before .before) in
-    rw (
-      c .before .row-of .ensures,
-      c .supply-at .ensures,
-    )
-    (bank-bounds (s .args .x) (reachable-bounded (s .args .x) (s .pre)) (s .args .member) (s .args .token) (g .0) (g .1))
-
-put-banked-requires : tie.Need-put-banked-requires
-put-banked-requires c κs = let g = good (c .before .before .before) in omega arith
+refused-bank-requires : tie.Need-refused-bank-requires
+refused-bank-requires c κs = search needs
 
 returns : tie.Need-returns
-returns c = let a = c .before .before .before .before .before .args in
-    c .refused .ensures ∙ sym (withdraw-on (a .x) (a .member) (a .token) (a .amount) ∙ after-bad (a .x) _ (sym (c .before .before .before .before .bank-form .ensures) ∙ c .before .before .form .given .1))
+unfolding withdrawOn
+returns c = rw (below-is _ _ (c .before .before .below .ensures) (c .before .before .before .cell-of .ensures) (c .before .if1 .taken)) (c .refused-bank .ensures)
+
+debit-row-requires : tie.Need-debit-row-requires
+debit-row-requires c κs = search needs
+
+minus-requires : tie.Need-minus-requires
+minus-requires c κs = let start = c .before .before .before .before .before in
+    let a = start .args in
+    omega (arith, start .pre .1, ltb-false (cellOf (a .row) (a .token)) (a .n .0) (below-is _ _ (c .before .before .before .below .ensures) (c .before .before .before .before .cell-of .ensures) (c .before .before .if1 .left)))
+
+entry-amount-requires : tie.Need-entry-amount-requires
+entry-amount-requires c κs = search needs
 
 returns-2 : tie.Need-returns-2
-returns-2 c = let a = c .before .before .before .before .before .before .before .args in
-    c .put-banked .ensures
-    ∙ ap (putBanked (a .x) (a .member) (a .token))
-    (c .before .withdraw .ensures
-    ∙ ap₂ (λ (row : Row) (supply : Amount). withdrawOn row supply (a .token) (a .amount)) (c .before .before .before .row-of .ensures) (c .before .before .supply-at .ensures))
-    ∙ sym (withdraw-on (a .x) (a .member) (a .token) (a .amount) ∙ after-good (a .x) _ (formed (c .before .before .before .before)))
+unfolding withdrawOn
+returns-2 c = let start = c .before .before .before .before .before .before .before in
+    let a = start .args in
+    let no = below-is (cellOf (a .row) (a .token)) (a .n .0) (c .before .before .before .before .before .below .ensures) (c .before .before .before .before .before .before .cell-of .ensures) (c .before .before .before .before .if1 .left) in
+    rw (
+      c .entry-amount .ensures,
+      c .before .minus .ensures,
+      c .before .before .before .debit-row .ensures ∙ debit-row-done (a .row) (a .token) (a .n .0) (omega (arith, start .pre .0)) (ltb-false _ _ no),
+      no,
+    )
 
 pub withdraw-spec : {M : Type 1} → statement M
-withdraw-spec =
-    tie.close
-    (tie.spec
-    bank-form-requires
-    enum-known-form
-    refused-requires
-    enum-told
-    row-of-requires
-    supply-at-requires
-    withdraw-requires
-    put-banked-requires
-    returns
-    returns-2)
+withdraw-spec = tie.close (tie.spec cell-of-requires below-requires refused-bank-requires returns debit-row-requires minus-requires entry-amount-requires returns-2)

@@ -8,10 +8,10 @@ use Rattle.day.proofs.replay_day.Statement.{statement}
 use Rattle.day.proofs.replay_day.Tie as tie
 
 large-buffer-requires : tie.Need-large-buffer-requires
-large-buffer-requires c κs = search needs
+large-buffer-requires c κs = tt
 
 fresh-day-requires : tie.Need-fresh-day-requires
-fresh-day-requires c κs = search needs
+fresh-day-requires c κs = tt
 
 slice-aggregate-take-all : tie.Need-slice-aggregate-take-all
 slice-aggregate-take-all c = search needs
@@ -23,13 +23,13 @@ take-all-requires c κs = (
 )
 
 enum-told : tie.Need-enum-told
-enum-told c = search needs
+enum-told c = c .match .keys1
 
 enum-told-2 : tie.Need-enum-told-2
-enum-told-2 c = search needs
+enum-told-2 c = c .match .keys2
 
 enum-told-3 : tie.Need-enum-told-3
-enum-told-3 c = search needs
+enum-told-3 c = c .match .keys3
 
 slice-aggregate-take-last : tie.Need-slice-aggregate-take-last
 slice-aggregate-take-last c = search needs
@@ -41,16 +41,16 @@ take-last-requires c κs = (
 )
 
 returns : tie.Need-returns
-returns c = search needs
+returns c = tt
 
 returns-2 : tie.Need-returns-2
-returns-2 c = search needs
+returns-2 c = tt
 
 returns-3 : tie.Need-returns-3
-returns-3 c = search needs
+returns-3 c = tt
 
 returns-4 : tie.Need-returns-4
-returns-4 c = search needs
+returns-4 c = tt
 
 pub replay-day-spec : {M : Type 1} → statement M
 replay-day-spec =

@@ -1,5 +1,5 @@
 -- `day::take_last` meets its contract: with room for any answer, a last line is taken.
-use mathlib.Core.Path.{_≡_, sym, ap, _∙_}
+use mathlib.Core.Path.{_≡_, sym, ap, _∙_, subst}
 use mathlib.Core.List.{List, [], _∷_}
 use Prim.Native.Nat.{ℕ, _≤_, _<_}
 use native.Mathlib.Omega.{arith}
@@ -9,7 +9,6 @@ use Rattle.lines.specs.AnswerText.{longestAnswer}
 use Rattle.replay.specs.declared.day.Day.{Day}
 use Rattle.replay.specs.declared.day.Fed.{Fed}
 use Rattle.replay.specs.Pieces.{after, ended, lastBytes, streamOf, FedBy}
-use borrow.Author.Needs.{needs}
 use Rattle.day.proofs.take_last.Statement.{statement}
 use Rattle.day.proofs.take_last.Tie as tie
 
@@ -23,19 +22,23 @@ at-end d out out′ r f room =
     f .advanced .state ∙ ap (after (streamOf d)) (all-taken (streamOf d .line) (r .used) (λ some. f .goes-on some room))
 
 finish-requires : tie.Need-finish-requires
-finish-requires c κs = search needs
+finish-requires c κs = c .before .before .pre .0
+
+-- what was written lies in the buffer
+written : (c : tie.After-finish) → c .finish .result .wrote ≤ length (c .finish .last .1 .0)
+written c = subst (λ (n : ℕ). c .finish .result .wrote ≤ n) (sym (c .finish .kept .1 .0)) (c .finish .ensures .advanced .fits)
 
 slice-reshare-prefix-write-all : tie.Need-slice-reshare-prefix-write-all
-slice-reshare-prefix-write-all c = search needs
+slice-reshare-prefix-write-all c = written (c .before .before .before)
 
 slice-aggregate-write-all : tie.Need-slice-aggregate-write-all
-slice-aggregate-write-all c = sym (length-take-le _ _ (search needs))
+slice-aggregate-write-all c = sym (length-take-le _ _ (written (c .before .before .before .before)))
 
 write-all-requires : tie.Need-write-all-requires
-write-all-requires c κs = search needs
+write-all-requires c κs = tt
 
 same-length : tie.Need-same-length
-same-length c = search needs
+same-length c = c .before .before .before .before .before .finish .kept .1 .0
 
 returns : tie.Need-returns
 returns c = at-end _ _ _ _ (c .before .before .before .before .before .finish .ensures) (c .before .before .before .before .before .before .before .before .pre .1)

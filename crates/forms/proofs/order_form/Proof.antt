@@ -1,110 +1,44 @@
 -- `forms::order_form` meets its contract.
-use borrow.Author.Tests.{eq-eqb, le-ltb, lt-ltb, ne-eqb}
-use Rattle.model.specs.Parts.{formOf}
+use Rattle.parts.specs.Parts.{formOf}
+use Rattle.forms.proofs.Tests.{tests}
 use Rattle.forms.proofs.order_form.Statement.{statement}
 use Rattle.forms.proofs.order_form.Tie as tie
 
 returns : tie.Need-returns
 unfolding formOf
-returns c =
-    let a = c .before .args in
-    rw (lt-ltb 15 (a .member) (c .if1 .taken))
+returns c = search tests
 
 returns-2 : tie.Need-returns-2
 unfolding formOf
-returns-2 c =
-    let a = c .before .before .args in
-    rw (le-ltb 15 (a .member) (c .before .if1 .left), lt-ltb (a .market) 1 (c .if2 .taken))
+returns-2 c = search tests
 
 returns-3 : tie.Need-returns-3
 unfolding formOf
-returns-3 c =
-    let a = c .before .before .before .args in
-    rw (
-      le-ltb 15 (a .member) (c .before .before .if1 .left),
-      le-ltb (a .market) 1 (c .before .if2 .left),
-      lt-ltb 3 (a .market) (c .if3 .taken),
-    )
+returns-3 c = search tests
 
 returns-4 : tie.Need-returns-4
 unfolding formOf
-returns-4 c =
-    let a = c .before .before .before .before .args in
-    rw (
-      le-ltb 15 (a .member) (c .before .before .before .if1 .left),
-      le-ltb (a .market) 1 (c .before .before .if2 .left),
-      le-ltb 3 (a .market) (c .before .if3 .left),
-      lt-ltb 63 (a .ticket) (c .if4 .taken),
-    )
+returns-4 c = search tests
 
 returns-5 : tie.Need-returns-5
 unfolding formOf
-returns-5 c =
-    let a = c .before .before .before .before .before .args in
-    rw (
-      le-ltb 15 (a .member) (c .before .before .before .before .if1 .left),
-      le-ltb (a .market) 1 (c .before .before .before .if2 .left),
-      le-ltb 3 (a .market) (c .before .before .if3 .left),
-      le-ltb 63 (a .ticket) (c .before .if4 .left),
-      lt-ltb 1 (a .side) (c .if5 .taken),
-    )
+returns-5 c = search tests
 
 returns-6 : tie.Need-returns-6
 unfolding formOf
-returns-6 c =
-    let a = c .before .before .before .before .before .before .args in
-    rw (
-      le-ltb 15 (a .member) (c .before .before .before .before .before .if1 .left),
-      le-ltb (a .market) 1 (c .before .before .before .before .if2 .left),
-      le-ltb 3 (a .market) (c .before .before .before .if3 .left),
-      le-ltb 63 (a .ticket) (c .before .before .if4 .left),
-      le-ltb 1 (a .side) (c .before .if5 .left),
-      eq-eqb (a .amount) 0 (c .if6 .taken),
-    )
+returns-6 c = search tests
 
 returns-7 : tie.Need-returns-7
 unfolding formOf
-returns-7 c =
-    let a = c .before .before .before .before .before .before .before .args in
-    rw (
-      le-ltb 15 (a .member) (c .before .before .before .before .before .before .if1 .left),
-      le-ltb (a .market) 1 (c .before .before .before .before .before .if2 .left),
-      le-ltb 3 (a .market) (c .before .before .before .before .if3 .left),
-      le-ltb 63 (a .ticket) (c .before .before .before .if4 .left),
-      le-ltb 1 (a .side) (c .before .before .if5 .left),
-      ne-eqb (a .amount) 0 (c .before .if6 .left),
-      lt-ltb (a .limit) 1 (c .if7 .taken),
-    )
+returns-7 c = search tests
 
 returns-8 : tie.Need-returns-8
 unfolding formOf
-returns-8 c =
-    let a = c .before .before .before .before .before .before .before .before .args in
-    rw (
-      le-ltb 15 (a .member) (c .before .before .before .before .before .before .before .if1 .left),
-      le-ltb (a .market) 1 (c .before .before .before .before .before .before .if2 .left),
-      le-ltb 3 (a .market) (c .before .before .before .before .before .if3 .left),
-      le-ltb 63 (a .ticket) (c .before .before .before .before .if4 .left),
-      le-ltb 1 (a .side) (c .before .before .before .if5 .left),
-      ne-eqb (a .amount) 0 (c .before .before .if6 .left),
-      le-ltb (a .limit) 1 (c .before .if7 .left),
-      lt-ltb 2000000000 (a .limit) (c .if8 .taken),
-    )
+returns-8 c = search tests
 
 returns-9 : tie.Need-returns-9
 unfolding formOf
-returns-9 c =
-    let a = c .before .before .before .before .before .before .before .before .args in
-    rw (
-      le-ltb 15 (a .member) (c .before .before .before .before .before .before .before .if1 .left),
-      le-ltb (a .market) 1 (c .before .before .before .before .before .before .if2 .left),
-      le-ltb 3 (a .market) (c .before .before .before .before .before .if3 .left),
-      le-ltb 63 (a .ticket) (c .before .before .before .before .if4 .left),
-      le-ltb 1 (a .side) (c .before .before .before .if5 .left),
-      ne-eqb (a .amount) 0 (c .before .before .if6 .left),
-      le-ltb (a .limit) 1 (c .before .if7 .left),
-      le-ltb 2000000000 (a .limit) (c .if8 .left),
-    )
+returns-9 c = search tests
 
 pub order-form-spec : {M : Type 1} → statement M
 order-form-spec = tie.close (tie.spec returns returns-2 returns-3 returns-4 returns-5 returns-6 returns-7 returns-8 returns-9)

@@ -1,11 +1,9 @@
 -- `ledger::credit_row` meets its contract.
-use mathlib.Core.Path.{sym}
-use native.Mathlib.Omega.{arith}
+use mathlib.Core.Path.{sym, _∙_}
 use borrow.Author.Needs.{needs}
-use borrow.Author.Tests.{lt-ltb}
+use borrow.Author.Tests.{lt-ltb, le-ltb, ltb-false}
 use Rattle.ledger.specs.Balances.{cellOf, withCell, creditedRow}
 use Rattle.ledger.specs.Postings.{creditRowOf}
-use Rattle.ledger.proofs.Laws.{credit-row-done, credit-row-full}
 use Rattle.ledger.proofs.credit_row.Statement.{statement}
 use Rattle.ledger.proofs.credit_row.Tie as tie
 
@@ -19,23 +17,15 @@ mul-cell c = search needs
 element-copy-out-cell : tie.Need-element-copy-out-cell
 element-copy-out-cell c = search needs
 
-cast-sum : tie.Need-cast-sum
-cast-sum c = search needs
-
-cast-sum-2 : tie.Need-cast-sum-2
-cast-sum-2 c = search needs
-
-add-sum : tie.Need-add-sum
-add-sum c = search needs
+too-much-with-requires : tie.Need-too-much-with-requires
+too-much-with-requires c κs = search needs
 
 returns-2 : tie.Need-returns-2
-unfolding cellOf
-returns-2 c =
-    let s = c .before .before .before .before .before .args in
-    sym (credit-row-full (s .row) (s .token) (s .n .0) (omega arith) (omega arith))
+unfolding creditRowOf cellOf
+returns-2 c = rw (le-ltb _ _ (c .before .before .before .if1 .left), sym (c .before .too-much-with .ensures) ∙ c .if2 .taken)
 
-cast-t20 : tie.Need-cast-t20
-cast-t20 c = search needs
+plus-requires : tie.Need-plus-requires
+plus-requires c κs = ltb-false _ _ (sym (c .before .too-much-with .ensures) ∙ c .if2 .left)
 
 mul-new : tie.Need-mul-new
 mul-new c = search needs
@@ -44,10 +34,12 @@ element-set-from-new : tie.Need-element-set-from-new
 element-set-from-new c = search needs
 
 returns-3 : tie.Need-returns-3
-unfolding creditedRow withCell cellOf
-returns-3 c =
-    let s = c .before .before .before .before .before .args in
-    sym (credit-row-done (s .row) (s .token) (s .n .0) (omega arith) (omega arith))
+unfolding creditRowOf creditedRow withCell cellOf
+returns-3 c = rw (
+  le-ltb _ _ (c .before .before .before .before .if1 .left),
+  sym (c .before .before .too-much-with .ensures) ∙ c .before .if2 .left,
+  c .plus .ensures,
+)
 
 pub credit-row-spec : {M : Type 1} → statement M
 credit-row-spec =
@@ -56,11 +48,9 @@ credit-row-spec =
     returns
     mul-cell
     element-copy-out-cell
-    cast-sum
-    cast-sum-2
-    add-sum
+    too-much-with-requires
     returns-2
-    cast-t20
+    plus-requires
     mul-new
     element-set-from-new
     returns-3)

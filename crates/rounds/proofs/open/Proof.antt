@@ -1,72 +1,60 @@
 -- `rounds::open` meets its contract.
-use Prim.Native.Nat.{_≤_, _<_}
-use mathlib.Core.Path.{_≡_, sym, ap, _∙_}
-use native.Mathlib.Omega.{arith}
+use mathlib.Core.Path.{sym, ap₂, _∙_}
 use borrow.Author.Needs.{needs}
-use Rattle.model.specs.declared.state.Market.{Market}
-use Rattle.model.specs.declared.parts.Form.the-variants.{Good}
-use Rattle.model.specs.Parts.{openForm, formOf, openOn, putMoved}
-use Rattle.model.proofs.OnParts.{after-bad, after-good, open-places, open-on}
+use borrow.Author.Tests.{not-true, not-false}
+use Rattle.rounds.proofs.Laws.{openedWith, open-wrong-phase, open-stale, open-done}
 use Rattle.rounds.proofs.open.Statement.{statement}
 use Rattle.rounds.proofs.open.Tie as tie
 
-open-form-requires : tie.Need-open-form-requires
-open-form-requires c κs = search needs
-
-enum-known-form : tie.Need-enum-known-form
-enum-known-form c = search needs
+is-closed-requires : tie.Need-is-closed-requires
+is-closed-requires c κs = search needs
 
 refused-requires : tie.Need-refused-requires
 refused-requires c κs = search needs
 
-enum-told : tie.Need-enum-told
-enum-told c = search needs
-
--- the form is good
-good : (c : tie.After-enum-told) → let a = c .before .before .before .args in formOf (openForm (a .market) (a .reference) (a .slack) (a .length)) ≡ Good
-good c = sym (c .before .before .open-form .ensures) ∙ c .enum-told .given .1
-
--- and says this of its numbers
-bounds : (c : tie.After-enum-told) →
-    let a = c .before .before .before .args in (0 < a .market) × (a .market < 4) × (a .reference ≤ 1000000000) × (a .slack ≤ 500000)
-bounds c = let a = c .before .before .before .args in open-places (a .market) (a .reference) (a .slack) (a .length) (good c)
-
-market-at-requires : tie.Need-market-at-requires
-market-at-requires c κs = let b = bounds c in omega arith
-
-open-requires : tie.Need-open-requires
-open-requires c κs = let b = bounds (c .before) in omega arith
-
-put-moved-requires : tie.Need-put-moved-requires
-put-moved-requires c κs = let b = bounds (c .before .before) in omega arith
-
 returns : tie.Need-returns
 returns c =
-    let a = c .before .before .before .before .before .args in
-    let bad = sym (c .before .before .before .before .open-form .ensures) ∙ c .before .before .form .given .1 in
-    c .refused .ensures
-    ∙ sym (open-on (a .x) (a .market) (a .block) (a .reference) (a .slack) (a .length) ∙ after-bad _ _ bad)
+    let a = c .before .before .before .args in
+    let e = sym (c .before .before .is-closed .ensures) ∙ not-true _ (c .before .if1 .taken) in
+    c .refused .ensures ∙ sym (open-wrong-phase (a .market) (a .last) (a .block .0) (a .reference .0) (a .slack) (a .length) e)
+
+is-before-requires : tie.Need-is-before-requires
+is-before-requires c κs = search needs
+
+refused-requires-2 : tie.Need-refused-requires-2
+refused-requires-2 c κs = search needs
 
 returns-2 : tie.Need-returns-2
 returns-2 c =
+    let a = c .before .before .before .before .before .args in
+    let e = sym (c .before .before .before .before .is-closed .ensures) ∙ not-false _ (c .before .before .before .if1 .left) in
+    let h = sym (c .before .before .is-before .ensures) ∙ c .before .if2 .taken in
+    c .refused2 .ensures ∙ sym (open-stale (a .market) (a .last) (a .block .0) (a .reference .0) (a .slack) (a .length) e h)
+
+high-bound-requires : tie.Need-high-bound-requires
+high-bound-requires c κs = search needs
+
+low-bound-requires : tie.Need-low-bound-requires
+low-bound-requires c κs = search needs
+
+returns-3 : tie.Need-returns-3
+returns-3 c =
     let a = c .before .before .before .before .before .before .args in
-    let work =
-    c .before .«open» .ensures
-    ∙ ap (λ (m : Market). openOn m (a .x .last) (a .block) (a .reference) (a .slack) (a .length)) (c .before .before .market-at .ensures) in
-    c .put-moved .ensures
-    ∙ ap (putMoved (a .x) (a .market)) work
-    ∙ sym (open-on (a .x) (a .market) (a .block) (a .reference) (a .slack) (a .length) ∙ after-good _ _ (good (c .before .before .before)))
+    let e = sym (c .before .before .before .before .before .is-closed .ensures) ∙ not-false _ (c .before .before .before .before .if1 .left) in
+    let h = sym (c .before .before .before .is-before .ensures) ∙ c .before .before .if2 .left in
+    ap₂ (openedWith (a .block .0) (a .reference .0) (a .length)) (c .before .high-bound .ensures) (c .low-bound .ensures)
+    ∙ sym (open-done (a .market) (a .last) (a .block .0) (a .reference .0) (a .slack) (a .length) e h)
 
 pub open-spec : {M : Type 1} → statement M
 open-spec =
     tie.close
     (tie.spec
-    open-form-requires
-    enum-known-form
+    is-closed-requires
     refused-requires
-    enum-told
-    market-at-requires
-    open-requires
-    put-moved-requires
     returns
-    returns-2)
+    is-before-requires
+    refused-requires-2
+    returns-2
+    high-bound-requires
+    low-bound-requires
+    returns-3)

@@ -2,7 +2,7 @@
 use native.Mathlib.Omega.{arith}
 use native.Mathlib.Nat.{pos-of-ne-zero}
 use borrow.Author.Needs.{needs}
-use Rattle.stream_parts.proofs.FeedLaws.{untouched, fed-some, fed-same-out, fed-over}
+use Rattle.replay.proofs.FeedLaws.{untouched, fed-some, fed-same-out, fed-over}
 use Rattle.stream.proofs.feed.Statement.{statement}
 use Rattle.stream.proofs.feed.Tie as tie
 
@@ -34,13 +34,13 @@ same-length-2 c = search needs
 returns-3 : tie.Need-returns-3
 returns-3 c =
     let w = c .before .before .before .before .before .before .before .before in
-    fed-same-out _ _ _ _ _ _ (untouched _ _ _ _ _ (w .whole-lines .ensures) (c .before .before .before .before .if3 .taken)) (c .before .before .one-line2 .ensures)
+    fed-same-out _ _ _ _ _ _ (untouched _ _ _ _ _ (w .whole-lines .ensures .advanced) (c .before .before .before .before .if3 .taken)) (c .before .before .one-line2 .ensures)
 
 same-length-3 : tie.Need-same-length-3
 same-length-3 c = search needs
 
 returns-4 : tie.Need-returns-4
-returns-4 c = fed-some _ _ _ _ _ (c .before .before .before .before .whole-lines .ensures) (pos-of-ne-zero (c .if3 .left))
+returns-4 c = fed-some _ _ _ _ _ (c .before .before .before .before .whole-lines .ensures .advanced) (pos-of-ne-zero (c .if3 .left))
 
 pub feed-spec : {M : Type 1} → statement M
 feed-spec =

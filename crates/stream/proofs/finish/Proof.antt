@@ -5,7 +5,7 @@ use native.Mathlib.Omega.{arith}
 use native.Mathlib.Nat.{pos-of-ne-zero}
 use lib.ListN.{length, length-map, length-take}
 use Rattle.replay.specs.Pieces.{streamOf}
-use Rattle.stream_parts.proofs.FeedLaws.{none-begun, some-begun, fed-same-bytes}
+use Rattle.replay.proofs.FeedLaws.{none-begun, some-begun, fed-same-bytes}
 use Rattle.stream.proofs.finish.Statement.{statement}
 use Rattle.stream.proofs.finish.Tie as tie
 

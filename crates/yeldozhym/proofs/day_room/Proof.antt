@@ -1,5 +1,5 @@
 -- `yeldozhym::day_room` meets its contract: what was counted so far is the length of a front of the day's text.
-use mathlib.Core.Path.{_≡_, refl, ap}
+use mathlib.Core.Path.{_≡_, ap}
 use mathlib.Core.List.{List}
 use Prim.Native.Nat.{ℕ, _+_, _-_, _<_}
 use native.Mathlib.Omega.{arith}

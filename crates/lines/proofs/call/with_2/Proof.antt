@@ -1,17 +1,18 @@
 -- `lines::call::with_2` meets its contract: by kind number.
+use mathlib.Core.Path.{refl}
 use native.Mathlib.Omega.{arith}
-use Rattle.lines.proofs.CallLaws.{cancel-is, match-is, settle-is, no-two}
+use Rattle.lines.proofs.CallLaws.{of-kind, no-two}
 use Rattle.lines.proofs.call.with_2.Statement.{statement}
 use Rattle.lines.proofs.call.with_2.Tie as tie
 
 returns : tie.Need-returns
-returns c = cancel-is _ _ _ (omega (arith, c .if1 .taken))
+returns c = of-kind _ 4 _ _ refl (omega (arith, c .if1 .taken))
 
 returns-2 : tie.Need-returns-2
-returns-2 c = match-is _ _ _ (omega (arith, c .if2 .taken))
+returns-2 c = of-kind _ 7 _ _ refl (omega (arith, c .if2 .taken))
 
 returns-3 : tie.Need-returns-3
-returns-3 c = settle-is _ _ _ (omega (arith, c .if3 .taken))
+returns-3 c = of-kind _ 9 _ _ refl (omega (arith, c .if3 .taken))
 
 returns-4 : tie.Need-returns-4
 returns-4 c = no-two _ _ _ (c .before .before .if1 .left) (c .before .if2 .left) (c .if3 .left)

@@ -1,11 +1,12 @@
 -- `lines::call::with_5` meets its contract: by kind number.
+use mathlib.Core.Path.{refl}
 use native.Mathlib.Omega.{arith}
-use Rattle.lines.proofs.CallLaws.{open-is, no-five}
+use Rattle.lines.proofs.CallLaws.{of-kind, no-five}
 use Rattle.lines.proofs.call.with_5.Statement.{statement}
 use Rattle.lines.proofs.call.with_5.Tie as tie
 
 returns : tie.Need-returns
-returns c = open-is _ _ _ _ _ _ (omega (arith, c .if1 .taken))
+returns c = of-kind _ 5 _ _ refl (omega (arith, c .if1 .taken))
 
 returns-2 : tie.Need-returns-2
 returns-2 c = no-five _ _ _ _ _ _ (c .if1 .left)

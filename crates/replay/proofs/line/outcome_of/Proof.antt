@@ -14,14 +14,14 @@ step-requires c κs = c .before .before .before .pre
 enum-told : tie.Need-enum-told
 enum-told c = search needs
 
-refused-requires : tie.Need-refused-requires
-refused-requires c κs = tt
+no-call-requires : tie.Need-no-call-requires
+no-call-requires c κs = tt
 
 returns : tie.Need-returns
 returns c = c .step .ensures ∙ sym (ap (outcomeOf (c .before .before .before .before .args .x)) (c .before .before .reading .given .1))
 
 returns-2 : tie.Need-returns-2
-returns-2 c = c .refused .ensures ∙ sym (ap (outcomeOf (c .before .before .before .args .x)) (c .before .enum-told .given .1))
+returns-2 c = c .no-call .ensures ∙ sym (ap (outcomeOf (c .before .before .before .args .x)) (c .before .enum-told .given .1))
 
 pub outcome-of-spec : {M : Type 1} → statement M
-outcome-of-spec = tie.close (tie.spec enum-known-reading step-requires enum-told refused-requires returns returns-2)
+outcome-of-spec = tie.close (tie.spec enum-known-reading step-requires enum-told no-call-requires returns returns-2)

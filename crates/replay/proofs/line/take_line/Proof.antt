@@ -1,6 +1,6 @@
 -- `replay::line::take_line` meets its contract: how much was written tells whether the answer line fits.
 use borrow.Author.Needs.{needs}
-use Rattle.replay.proofs.LineRun.{told, take-put, take-bound, take-short, take-fits}
+use Rattle.replay.proofs.LineRun.{line-outcome-is, take-put, take-bound, take-short, take-fits}
 use Rattle.replay.proofs.line.take_line.Statement.{statement}
 use Rattle.replay.proofs.line.take_line.Tie as tie
 
@@ -22,7 +22,7 @@ returns c =
     let s = w .before .before .before .before .before .before in
     let a = s .before .args in
     let o = w .before .before .before .outcome-of in
-    let is = told (a .x) (a .line .now) _ (o .result) (w .before .before .before .before .read-call .ensures) (o .ensures) in (
+    let is = line-outcome-is (a .x) (a .line .now) _ (o .result) (w .before .before .before .before .read-call .ensures) (o .ensures) in (
       take-short (a .x) (a .number) (a .line .now) (a .out .now) (o .result) is _ (w .write-answer .ensures .0) (c .if1 .taken),
       (
         take-put (a .x) (a .number) (a .line .now) (a .out .now) (o .result) is _ (w .write-answer .ensures .1 .0),
@@ -39,7 +39,7 @@ returns-2 c =
     let s = w .before .before .before .before .before .before in
     let a = s .before .args in
     let o = w .before .before .before .outcome-of in
-    let is = told (a .x) (a .line .now) _ (o .result) (w .before .before .before .before .read-call .ensures) (o .ensures) in (
+    let is = line-outcome-is (a .x) (a .line .now) _ (o .result) (w .before .before .before .before .read-call .ensures) (o .ensures) in (
       take-fits (a .x) (a .number) (a .line .now) (a .out .now) (o .result) is _ (w .write-answer .ensures .0) (c .if1 .left),
       (
         take-put (a .x) (a .number) (a .line .now) (a .out .now) (o .result) is _ (w .write-answer .ensures .1 .0),

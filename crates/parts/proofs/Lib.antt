@@ -1,0 +1,2 @@
+pub mod OnParts
+pub mod PartBounds

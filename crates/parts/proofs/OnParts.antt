@@ -1,0 +1,345 @@
+-- Each call is its form, then its work on the parts that it touches, with the parts put back.
+use Prim.Native.Nat.{ℕ, zero, suc, _+_, _-_, _≤_, _<_}
+use mathlib.Core.Path.{_≡_, refl, sym, ap, ap₂, _∙_}
+use mathlib.Core.Bool.{Bool, true, false, cond, _||_, not}
+use mathlib.Core.List.{List, _++_}
+use native.Mathlib.Omega.{arith}
+use lib.Dec.{eqb}
+use lib.ListN.{getD, set}
+use lib.Seq.{set-getD, getD-set-other}
+use borrow.Author.Tests.{eqb-true, ltb-false, not-false}
+use Rattle.units.specs.Ranges.{highestReference, highestSlack}
+use Rattle.units.specs.declared.Amount.{Amount}
+use Rattle.units.specs.Counts.{amount, block}
+use Rattle.units.specs.Decide.{Test, decide}
+use Rattle.units.proofs.Decide.{Passed, decide-split, decide-carried, passed-by, or-false}
+use Rattle.ticket_set.specs.TicketSet.{countOf}
+use Rattle.pricing.specs.declared.Side.{Side}
+use Rattle.ledger.specs.declared.Row.{Row}
+use Rattle.ledger.specs.declared.Ledger.{Ledger}
+use Rattle.ledger.specs.Balances.{cellOf, creditedRow, debitedRow, rowOf, withRow, credited, debited, Shaped}
+use Rattle.ledger.proofs.Laws.{balance-row, credited-row, debited-row, row-same, row-again, put-back}
+use Rattle.model.specs.declared.state.Order.{Order}
+use Rattle.model.specs.declared.state.Ticket.{Ticket}
+use Rattle.model.specs.declared.state.TicketState.{TicketState}
+use Rattle.model.specs.declared.state.TicketState.the-variants.{Free, Resting, Entered}
+use Rattle.model.specs.declared.state.Round.{Round}
+use Rattle.model.specs.declared.state.Phase.{Phase}
+use Rattle.model.specs.declared.state.Phase.the-variants.{Closed, Auction, Paying}
+use Rattle.model.specs.declared.state.Market.{Market}
+use Rattle.model.specs.declared.state.Exchange.{Exchange}
+use Rattle.model.specs.declared.answer.Answer.the-variants.{Accepted, Refused}
+use Rattle.model.specs.declared.answer.Outcome.{Outcome}
+use Rattle.model.specs.declared.answer.Refusal.{Refusal}
+use Rattle.model.specs.declared.answer.Refusal.the-variants.{NoSuchOrder, WrongTicketState}
+use Rattle.parts.specs.declared.Form.{Form}
+use Rattle.parts.specs.declared.Form.the-variants.{Good, Bad}
+use Rattle.model.specs.Sides.{sideOf, offered, wanted, gives, takes}
+use Rattle.model.specs.State.{supply, lastBlock, ticket, freeTicket, orderIn, isFree, restingOr, phase, closedMarket, roundIn, marketAt, setMarket, setLedger, setSupply, setResidue, setTickets, setMarkets, setLast, withTicket, withPhase, credit, toResidue}
+use Rattle.model.specs.Calls.{bankForm, orderForm, cancelForm, openForm, ticketForm, marketForm, bidForm, depositRest, withdrawRest, orderRest, cancelRest, openRest, enterRest, matchRest, bidRest, settleRest, claimRest, accept, refuse, above, outside, bidQuote, bidRound, depositOf, depositDone, withdrawOf, orderOf, orderDone, cancelOf, cancelDone, openOf, openDone, enterOf, enterWith, enterDone, matchOf, matchDone, bidOf, bidDone, settleOf, settleDone, claimedRound, payingOrClosed, claimOf, claimWith, claimDone, shareIn, gotIn, orderFrom}
+use Rattle.model.specs.Bounds.{Bounded, TicketBounds}
+use Rattle.parts.specs.Parts.{formOf, byForm, ticketMarket, ticketMember, supplyAt, residueAt, ticketAt, refusedBanked, depositedOn, depositOn, withdrawnOn, withdrawOn, putBanked, refusedPlaced, orderedOn, orderOn, cancelledOn, cancelOn, putPlaced, refusedMoved, openedOn, openOn, matchedOn, matchOn, settledOn, settleOn, putMoved, refusedJoined, enteredOn, enterOn, putJoined, refusedTraded, tradedOn, bidOn, putTraded, refusedClaimed, paidOn, claimOn, putClaimed}
+use Rattle.model.proofs.Frames.{inside}
+
+-- ---- forms
+
+-- a call that looks at its form first
+on-form : (x : Exchange) (ts us : List (Test Refusal)) (out mid : Outcome) → (Passed ts → decide us (refuse x) out ≡ mid)
+    → decide (ts ++ us) (refuse x) out ≡ byForm (formOf ts) (refuse x) mid
+unfolding formOf
+on-form x ts us out mid h =
+    decide-split (refuse x) out mid ts us h
+    ∙ sym (decide-carried (λ (f : Form). byForm f (refuse x) mid) Bad Good (refuse x) mid ts (λ r. refl) (λ p. refl))
+
+-- a good form passed every test
+pub form-good : (ts : List (Test Refusal)) → formOf ts ≡ Good → Passed ts
+unfolding formOf
+form-good ts e = passed-by (λ (f : Form). f ≡ Good) Bad Good (λ r q. absurd (let z : _≡_ {A = ℕ} 0 1 = cc in omega arith)) ts e
+
+-- the places that a good form names
+pub bank-places : (m t n : ℕ) → formOf (bankForm m t n) ≡ Good → (m < 16) × (t < 4)
+bank-places m t n e =
+    let p = form-good (bankForm m t n) e in
+    (omega (arith, ltb-false 15 m (p .0)), omega (arith, ltb-false 3 t (p .1 .0)))
+
+pub order-places : (k m n side limit a : ℕ) → formOf (orderForm k m n side limit a) ≡ Good → (k < 64) × (m < 16) × (n < 4)
+order-places k m n side limit a e =
+    let p = form-good (orderForm k m n side limit a) e in
+    (omega (arith, ltb-false 63 k (p .1 .1 .0)), omega (arith, ltb-false 15 m (p .0)), omega (arith, inside n 1 3 (p .1 .0) .1))
+
+pub cancel-places : (k m : ℕ) → formOf (cancelForm k m) ≡ Good → (k < 64) × (m < 16)
+cancel-places k m e =
+    let p = form-good (cancelForm k m) e in
+    (omega (arith, ltb-false 63 k (p .1 .0)), omega (arith, ltb-false 15 m (p .0)))
+
+pub open-places : (n r w len : ℕ) → formOf (openForm n r w len) ≡ Good → (0 < n) × (n < 4) × (r ≤ highestReference) × (w ≤ highestSlack)
+open-places n r w len e =
+    let p = form-good (openForm n r w len) e in
+    let q = or-false (outside r 1 highestReference) (above w highestSlack || outside len 1 64) (p .1 .0) in
+    let i = inside n 1 3 (p .0) in
+    (omega (arith, i .0), omega (arith, i .1), inside r 1 highestReference (q .0) .1, ltb-false highestSlack w (or-false (above w highestSlack) (outside len 1 64) (q .1) .0))
+
+pub ticket-place : (k : ℕ) → formOf (ticketForm k) ≡ Good → k < 64
+ticket-place k e = omega (arith, ltb-false 63 k (form-good (ticketForm k) e .0))
+
+pub market-in : (n : ℕ) → formOf (marketForm n) ≡ Good → (0 < n) × (n < 4)
+market-in n e =
+    let i = inside n 1 3 (form-good (marketForm n) e .0) in
+    (omega (arith, i .0), omega (arith, i .1))
+
+pub bid-places : (n m side a : ℕ) → formOf (bidForm n m side a) ≡ Good → (0 < n) × (n < 4) × (m < 16)
+bid-places n m side a e =
+    let p = form-good (bidForm n m side a) e in
+    let i = inside n 1 3 (p .1 .0) in
+    (omega (arith, i .0), omega (arith, i .1), omega (arith, ltb-false 15 m (p .0)))
+
+-- ---- parts put back as they were
+
+pred : (i : ℕ) → suc i - 1 ≡ i
+pred i = omega arith
+
+-- market n stands at place n - 1
+pub market-place : (ms : List Market) (n : ℕ) → 0 < n → getD ms (n - 1) closedMarket ≡ marketAt ms n
+market-place ms zero h = absurd (omega arith)
+market-place ms (suc i) h = ap (λ (j : ℕ). getD ms j closedMarket) (pred i)
+
+pub set-market-place : (ms : List Market) (n : ℕ) (m : Market) → 0 < n → set ms (n - 1) m ≡ setMarket ms n m
+set-market-place ms zero m h = absurd (omega arith)
+set-market-place ms (suc i) m h = ap (λ (j : ℕ). set ms j m) (pred i)
+
+market-back : (ms : List Market) (n : ℕ) → setMarket ms n (marketAt ms n) ≡ ms
+market-back ms zero = refl
+market-back ms (suc i) = set-getD ms i closedMarket
+
+back : (x : Exchange) (l : Ledger) (supply residue : List Amount) (tickets : List Ticket) (markets : List Market) (w : Refusal)
+    → l ≡ x .ledger → supply ≡ x .supply → residue ≡ x .residue → tickets ≡ x .tickets → markets ≡ x .markets
+    → _≡_ {A = Outcome} (record { answer = Refused w; exchange = setMarkets (setTickets (setResidue (setSupply (setLedger x l) supply) residue) tickets) markets }) (refuse x w)
+back x l s r t m w el es er et em = rw (el, es, er, et, em)
+
+-- ---- 1, 2
+
+module _ (x : Exchange) (m t : ℕ) where
+  bank-back : (w : Refusal) → putBanked x m t (refusedBanked (rowOf (x .ledger) m) (supplyAt x t) w) ≡ refuse x w
+  bank-back w = back x _ _ (x .residue) (x .tickets) (x .markets) w (put-back (x .ledger) m) (set-getD (x .supply) t (amount 0)) refl refl refl
+
+  pub deposit-on : (n : ℕ) → depositOf x m t n ≡ byForm (formOf (bankForm m t n)) (refuse x) (putBanked x m t (depositOn (rowOf (x .ledger) m) (supplyAt x t) t n))
+  unfolding depositOf depositOn
+  deposit-on n =
+      let row : Row = rowOf (x .ledger) m in
+      let us : List (Test Refusal) = depositRest (supply x t) n in
+      on-form x (bankForm m t n) us (depositDone x m t n) _ (λ f.
+      sym (decide-carried (putBanked x m t) (refusedBanked row (supplyAt x t)) (depositedOn row (supplyAt x t) t n) (refuse x) (depositDone x m t n) us bank-back
+      (λ p. rw (balance-row (x .ledger) m t, credited-row (x .ledger) m t n))))
+
+  pub withdraw-on : (n : ℕ) → withdrawOf x m t n ≡ byForm (formOf (bankForm m t n)) (refuse x) (putBanked x m t (withdrawOn (rowOf (x .ledger) m) (supplyAt x t) t n))
+  unfolding withdrawOf withdrawOn
+  withdraw-on n =
+      let row : Row = rowOf (x .ledger) m in
+      let us : List (Test Refusal) = withdrawRest (cellOf row t) n in
+      rw (balance-row (x .ledger) m t)
+      (on-form x (bankForm m t n) us _ _ (λ f.
+      sym (decide-carried (putBanked x m t) (refusedBanked row (supplyAt x t)) (withdrawnOn row (supplyAt x t) t n) (refuse x) _ us bank-back
+      (λ p. rw (debited-row (x .ledger) m t n)))))
+
+-- ---- 3, 4
+
+module _ (x : Exchange) (m k : ℕ) where
+  place-back : (w : Refusal) → putPlaced x m k (refusedPlaced (rowOf (x .ledger) m) (ticketAt x k) w) ≡ refuse x w
+  place-back w = back x _ (x .supply) (x .residue) _ (x .markets) w (put-back (x .ledger) m) refl refl (set-getD (x .tickets) k freeTicket) refl
+
+  pub order-on : (market side limit n : ℕ)
+      → orderOf x k m market side limit n
+      ≡ byForm (formOf (orderForm k m market side limit n)) (refuse x) (putPlaced x m k (orderOn (rowOf (x .ledger) m) (ticketAt x k) (orderFrom m market side limit n)))
+  unfolding orderOf orderOn
+  order-on market side limit n =
+      let row : Row = rowOf (x .ledger) m in
+      let token : ℕ = offered (sideOf side) market in
+      let us : List (Test Refusal) = orderRest (ticket x k) (cellOf row token) n in
+      rw (balance-row (x .ledger) m token)
+      (on-form x (orderForm k m market side limit n) us (orderDone x k m market side limit n) _ (λ f.
+      sym (decide-carried (putPlaced x m k) (refusedPlaced row (ticketAt x k)) (orderedOn row (orderFrom m market side limit n)) (refuse x) (orderDone x k m market side limit n) us place-back
+      (λ p. rw (debited-row (x .ledger) m token n)))))
+
+  pub cancel-on : cancelOf x k m ≡ byForm (formOf (cancelForm k m)) (refuse x) (putPlaced x m k (cancelOn (rowOf (x .ledger) m) (ticketAt x k) m))
+  unfolding cancelOf cancelOn
+  cancel-on =
+      let row : Row = rowOf (x .ledger) m in
+      let o : Order = orderIn (ticket x k) in
+      let us : List (Test Refusal) = cancelRest (ticket x k) m in
+      on-form x (cancelForm k m) us (cancelDone x k) _ (λ f.
+      sym (decide-carried (putPlaced x m k) (refusedPlaced row (ticketAt x k)) (cancelledOn row o) (refuse x) (cancelDone x k) us place-back (λ p.
+      let own : o .member ≡ m = eqb-true (o .member) m (not-false _ (or-false (isFree (ticket x k)) (not (eqb (o .member) m)) (p .0) .1)) in
+      sym (ap (λ (l : Ledger). putLedger x k l (o .offer .0)) (ap (λ (j : ℕ). credited (x .ledger) j (offered (o .side) (o .market)) (o .offer .0)) own ∙ credited-row (x .ledger) m (offered (o .side) (o .market)) (o .offer .0))))))
+    where
+      putLedger : Exchange → ℕ → Ledger → ℕ → Outcome
+      putLedger x k l n =
+          record {
+            answer = Accepted n 0;
+            exchange = setTickets (setLedger x l) (set (x .tickets) k freeTicket);
+          }
+
+-- ---- 5, 7, 9
+
+module _ (x : Exchange) (n at : ℕ) where
+  move-back : (w : Refusal) → putMoved x n (refusedMoved (marketAt (x .markets) n) (x .last) w) ≡ refuse x w
+  move-back w = back x (x .ledger) (x .supply) (x .residue) (x .tickets) _ w refl refl refl refl (market-back (x .markets) n)
+
+  pub open-on : (r w len : ℕ)
+      → openOf x n at r w len ≡ byForm (formOf (openForm n r w len)) (refuse x) (putMoved x n (openOn (marketAt (x .markets) n) (x .last) at r w len))
+  unfolding openOf openOn
+  open-on r w len =
+      let us : List (Test Refusal) = openRest (phase x n) (lastBlock x) at in
+      on-form x (openForm n r w len) us (openDone x n at r w len) _ (λ f.
+      sym (decide-carried (putMoved x n) (refusedMoved (marketAt (x .markets) n) (x .last)) (openedOn at r w len) (refuse x) (openDone x n at r w len) us move-back (λ p. refl)))
+
+  pub match-on : matchOf x n at ≡ byForm (formOf (marketForm n)) (refuse x) (putMoved x n (matchOn (marketAt (x .markets) n) (x .last) at))
+  unfolding matchOf matchOn
+  match-on =
+      let r : Round = roundIn (phase x n) in
+      let us : List (Test Refusal) = matchRest (phase x n) (lastBlock x) at in
+      on-form x (marketForm n) us (matchDone x n at) _ (λ f.
+      sym (decide-carried (putMoved x n) (refusedMoved (marketAt (x .markets) n) (x .last)) (matchedOn r at) (refuse x) (matchDone x n at) us move-back (λ p. refl)))
+
+  pub settle-on : settleOf x n at ≡ byForm (formOf (marketForm n)) (refuse x) (putMoved x n (settleOn (marketAt (x .markets) n) (x .last) at))
+  unfolding settleOf settleOn
+  settle-on =
+      let r : Round = roundIn (phase x n) in
+      let us : List (Test Refusal) = settleRest (phase x n) (lastBlock x) at in
+      on-form x (marketForm n) us (settleDone x n at) _ (λ f.
+      sym (decide-carried (putMoved x n) (refusedMoved (marketAt (x .markets) n) (x .last)) (settledOn r at) (refuse x) (settleDone x n at) us move-back (λ p. refl)))
+
+-- ---- 6
+
+module _ (x : Exchange) (k : ℕ) (s : TicketState) (e : ticketAt x k ≡ record { state = s }) where
+  join-back : (n : ℕ) (w : Refusal) → putJoined x k n (refusedJoined (record { state = s }) (marketAt (x .markets) n) w) ≡ refuse x w
+  join-back n w =
+      ap (λ (t : Ticket). putJoined x k n (refusedJoined t (marketAt (x .markets) n) w)) (sym e)
+      ∙ back x (x .ledger) (x .supply) (x .residue) _ _ w refl refl refl (set-getD (x .tickets) k freeTicket) (market-back (x .markets) n)
+
+enter-ticket : (x : Exchange) (k : ℕ) (s : TicketState) → ticketAt x k ≡ record { state = s }
+    → decide (enterRest s (phase x (orderIn s .market))) (refuse x) (enterWith x k (orderIn s) (roundIn (phase x (orderIn s .market))))
+    ≡ putJoined x k (ticketMarket s) (enterOn (record { state = s }) (marketAt (x .markets) (ticketMarket s)) k)
+unfolding enterOn
+enter-ticket x k Free e = sym (join-back x k Free e 1 NoSuchOrder)
+enter-ticket x k (Resting o) e =
+    let m : Market = marketAt (x .markets) (o .market) in
+    let s : TicketState = Resting o in
+    sym (decide-carried (putJoined x k (o .market)) (refusedJoined (record { state = s }) m) (enteredOn o (roundIn (m .phase)) k) (refuse x) (enterWith x k o (roundIn (m .phase)))
+    (enterRest s (m .phase)) (join-back x k s e (o .market)) (λ p. refl))
+enter-ticket x k (Entered o) e = sym (join-back x k (Entered o) e (o .market) WrongTicketState)
+
+pub enter-on : (x : Exchange) (k : ℕ)
+    → enterOf x k ≡ byForm (formOf (ticketForm k)) (refuse x) (putJoined x k (ticketMarket (ticket x k)) (enterOn (ticketAt x k) (marketAt (x .markets) (ticketMarket (ticket x k))) k))
+unfolding enterOf
+enter-on x k = on-form x (ticketForm k) (enterRest (ticket x k) (phase x (orderIn (ticket x k) .market))) (enterDone x k) _ (λ f. enter-ticket x k (ticket x k) refl)
+
+-- ---- 8
+
+module _ (x : Exchange) (n m at : ℕ) (z : Shaped (x .ledger)) where
+  trade-back : (w : Refusal) → putTraded x n m (refusedTraded (marketAt (x .markets) n) (rowOf (x .ledger) m) (x .last) w) ≡ refuse x w
+  trade-back w = back x _ (x .supply) (x .residue) (x .tickets) _ w (put-back (x .ledger) m) refl refl refl (market-back (x .markets) n)
+
+  -- two changes of one row
+  row-twice : m < 16 → (t u a b : ℕ) → credited (debited (x .ledger) m t a) m u b ≡ withRow (x .ledger) m (creditedRow (debitedRow (rowOf (x .ledger) m) t a) u b)
+  row-twice h t u a b =
+      rw (
+        debited-row (x .ledger) m t a,
+        credited-row (withRow (x .ledger) m (debitedRow (rowOf (x .ledger) m) t a)) m u b,
+        row-same (x .ledger) m (debitedRow (rowOf (x .ledger) m) t a) z h,
+        row-again (x .ledger) m (debitedRow (rowOf (x .ledger) m) t a) (creditedRow (debitedRow (rowOf (x .ledger) m) t a) u b),
+      )
+
+  pub bid-on : (side base bound : ℕ)
+      → bidOf x n m at side base bound
+      ≡ byForm (formOf (bidForm n m side base)) (refuse x) (putTraded x n m (bidOn (marketAt (x .markets) n) (rowOf (x .ledger) m) (x .last) n at (sideOf side) base bound))
+  unfolding bidOf bidOn
+  bid-on side base bound =
+      let row : Row = rowOf (x .ledger) m in
+      let s : Side = sideOf side in
+      let r : Round = roundIn (phase x n) in
+      let q : ℕ = bidQuote r s at base in
+      let us : List (Test Refusal) = bidRest (phase x n) (lastBlock x) at s base bound (cellOf row (wanted s n)) in
+      rw (balance-row (x .ledger) m (wanted s n))
+      (on-form x (bidForm n m side base) us (bidDone x n m at side base) _ (λ f.
+      sym (decide-carried (putTraded x n m) (refusedTraded (marketAt (x .markets) n) row (x .last)) (tradedOn r row n at s base q) (refuse x) (bidDone x n m at side base) us trade-back
+      (λ p. sym (ap (traded x n at r s base q) (row-twice (omega (arith, ltb-false 15 m (f .0))) (wanted s n) (offered s n) (gives s base q) (takes s base q)))))))
+    where
+      traded : Exchange → ℕ → ℕ → Round → Side → ℕ → ℕ → Ledger → Outcome
+      traded x n at r s base q l =
+          record {
+            answer = Accepted base q;
+            exchange = setLast (setMarkets (setLedger x l) (setMarket (x .markets) n (record { phase = Auction (bidRound r s base q) }))) (block at);
+          }
+
+-- ---- 10
+
+module _ (x : Exchange) (k : ℕ) (s : TicketState) (e : ticketAt x k ≡ record { state = s }) where
+  residue-back : (n : ℕ) → set (set (x .residue) 0 (residueAt x 0)) n (residueAt x n) ≡ x .residue
+  residue-back n =
+      ap (λ (l : List Amount). set l n (residueAt x n)) (set-getD (x .residue) 0 (amount 0)) ∙ set-getD (x .residue) n (amount 0)
+
+  claim-back : (n m : ℕ) (w : Refusal)
+      → putClaimed x k n m (refusedClaimed (record { state = s }) (marketAt (x .markets) n) (rowOf (x .ledger) m) (residueAt x 0) (residueAt x n) w) ≡ refuse x w
+  claim-back n m w =
+      ap (λ (t : Ticket). putClaimed x k n m (refusedClaimed t (marketAt (x .markets) n) (rowOf (x .ledger) m) (residueAt x 0) (residueAt x n) w)) (sym e)
+      ∙ back x _ (x .supply) _ _ _ w (put-back (x .ledger) m) refl (residue-back n) (set-getD (x .tickets) k freeTicket) (market-back (x .markets) n)
+
+-- the state after a claim, by its ledger, residue and phase
+claimed : Exchange → ℕ → Order → ℕ → ℕ → Ledger → List Amount → Phase → Outcome
+claimed x k o s got l residue p =
+    record {
+      answer = Accepted s got;
+      exchange = setMarkets (setTickets (setResidue (setLedger x l) residue) (set (x .tickets) k (record { state = restingOr o (o .offer .0 - s) }))) (setMarket (x .markets) (o .market) (record { phase = p }));
+    }
+
+module _ (x : Exchange) (k : ℕ) (o : Order) (pos : 0 < o .market) (s got : ℕ) (r : Round) where
+  -- a last claim sweeps into two cells of the residue
+  swept : (q b : ℕ) → set (set (x .residue) 0 (amount (residueAt x 0 .0 + q))) (o .market) (amount (getD (set (x .residue) 0 (amount (residueAt x 0 .0 + q))) (o .market) (amount 0) .0 + b))
+      ≡ set (set (x .residue) 0 (amount (residueAt x 0 .0 + q))) (o .market) (amount (residueAt x (o .market) .0 + b))
+  swept q b =
+      ap (λ (c : Amount). set (set (x .residue) 0 (amount (residueAt x 0 .0 + q))) (o .market) (amount (c .0 + b)))
+      (getD-set-other (x .residue) 0 (o .market) (amount (residueAt x 0 .0 + q)) (amount 0) (λ z. omega (arith, pos, z)))
+
+  paid-parts : accept s got (payingOrClosed (credit (withTicket x k (restingOr o (o .offer .0 - s))) (o .member) (wanted (o .side) (o .market)) got) (o .market) r)
+      ≡ putClaimed x k (o .market) (o .member) (paidOn (rowOf (x .ledger) (o .member)) (residueAt x 0) (residueAt x (o .market)) o s got r)
+  unfolding claimed
+  paid-parts = go (eqb (countOf (r .tickets)) 0)
+    where
+      row : credited (x .ledger) (o .member) (wanted (o .side) (o .market)) got
+          ≡ withRow (x .ledger) (o .member) (creditedRow (rowOf (x .ledger) (o .member)) (wanted (o .side) (o .market)) got)
+      row = credited-row (x .ledger) (o .member) (wanted (o .side) (o .market)) got
+
+      go : (q : Bool)
+          → accept s got (cond q (withPhase (toResidue (toResidue (credit (withTicket x k (restingOr o (o .offer .0 - s))) (o .member) (wanted (o .side) (o .market)) got) 0 (r .quote .0)) (o .market) (r .base .0)) (o .market) Closed) (withPhase (credit (withTicket x k (restingOr o (o .offer .0 - s))) (o .member) (wanted (o .side) (o .market)) got) (o .market) (Paying r)))
+          ≡ claimed x k o s got (withRow (x .ledger) (o .member) (creditedRow (rowOf (x .ledger) (o .member)) (wanted (o .side) (o .market)) got))
+          (set (set (x .residue) 0 (cond q (amount (residueAt x 0 .0 + r .quote .0)) (residueAt x 0))) (o .market) (cond q (amount (residueAt x (o .market) .0 + r .base .0)) (residueAt x (o .market))))
+          (cond q Closed (Paying r))
+      go true = ap₂ (λ (l : Ledger) (c : List Amount). claimed x k o s got l c Closed) row (swept (r .quote .0) (r .base .0))
+      go false = ap₂ (λ (l : Ledger) (c : List Amount). claimed x k o s got l c (Paying r)) row (sym (residue-back x k (ticket x k) refl (o .market)))
+
+claim-ticket : (x : Exchange) (k : ℕ) (s : TicketState) → ticketAt x k ≡ record { state = s } → TicketBounds s
+    → decide (claimRest s (phase x (orderIn s .market))) (refuse x) (claimWith x k (orderIn s) (roundIn (phase x (orderIn s .market))))
+    ≡ putClaimed x k (ticketMarket s) (ticketMember s)
+    (claimOn (record { state = s }) (marketAt (x .markets) (ticketMarket s)) (rowOf (x .ledger) (ticketMember s)) (residueAt x 0) (residueAt x (ticketMarket s)) k)
+unfolding claimOn
+claim-ticket x k Free e b = sym (claim-back x k Free e 1 0 NoSuchOrder)
+claim-ticket x k (Resting o) e b = sym (claim-back x k (Resting o) e (o .market) (o .member) WrongTicketState)
+claim-ticket x k (Entered o) e b =
+    let m : Market = marketAt (x .markets) (o .market) in
+    let r : Round = roundIn (m .phase) in
+    let s : TicketState = Entered o in
+    let row : Row = rowOf (x .ledger) (o .member) in
+    let next : Round = claimedRound r k (o .side) (o .offer .0 - shareIn r o) (gotIn r o) in
+    sym (decide-carried (putClaimed x k (o .market) (o .member)) (refusedClaimed (record { state = s }) m row (residueAt x 0) (residueAt x (o .market)))
+    (paidOn row (residueAt x 0) (residueAt x (o .market)) o (shareIn r o) (gotIn r o) next) (refuse x) (claimWith x k o r)
+    (claimRest s (m .phase)) (claim-back x k s e (o .market) (o .member)) (λ p. sym (paid-parts x k o (b .market-low) (shareIn r o) (gotIn r o) next)))
+
+pub claim-on : (x : Exchange) → Bounded x → (k : ℕ)
+    → claimOf x k
+    ≡ byForm (formOf (ticketForm k)) (refuse x)
+    (putClaimed x k (ticketMarket (ticket x k)) (ticketMember (ticket x k))
+    (claimOn (ticketAt x k) (marketAt (x .markets) (ticketMarket (ticket x k))) (rowOf (x .ledger) (ticketMember (ticket x k))) (residueAt x 0) (residueAt x (ticketMarket (ticket x k))) k))
+unfolding claimOf
+claim-on x b k =
+    on-form x (ticketForm k) (claimRest (ticket x k) (phase x (orderIn (ticket x k) .market))) (claimDone x k) _ (λ f.
+    claim-ticket x k (ticket x k) refl (b .ticket-bounds k (omega (arith, ltb-false 63 k (f .0)))))
