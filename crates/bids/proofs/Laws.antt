@@ -15,7 +15,7 @@ use Rattle.ledger.specs.declared.Row.{Row}
 use Rattle.ledger.specs.declared.RowPosting.{RowPosting}
 use Rattle.ledger.specs.Balances.{RowShaped, cellOf, creditedRow, debitedRow}
 use Rattle.ledger.specs.Postings.{creditRowOf, debitRowOf}
-use Rattle.ledger.proofs.Laws.{debit-row-done, credit-row-done, debited-cell}
+use Rattle.ledger.proofs.Laws.{debit-row-calls, credit-row-calls, row-debits}
 use Rattle.model.specs.declared.state.Round.{Round}
 use Rattle.model.specs.declared.state.Phase.the-variants.{Auction}
 use Rattle.model.specs.declared.state.Market.{Market}
@@ -127,5 +127,5 @@ module _ (r : Round) (row : Row) (last : Block) (number : ℕ) (b : BidBounds r 
 pub paid-row : (row : Row) (t u give take : ℕ) → RowShaped row → t < 4 → u < 4 → give ≤ cellOf row t → cellOf row u + take ≤ largest
     → creditRowOf (debitRowOf row t give .row) u take .row ≡ creditedRow (debitedRow row t give) u take
 paid-row row t u give take z ht hu le fit =
-    ap (λ (p : RowPosting). creditRowOf (p .row) u take .row) (debit-row-done row t give (omega arith) le)
-    ∙ ap (λ (p : RowPosting). p .row) (credit-row-done (debitedRow row t give) u take (omega arith) (omega (arith, debited-cell row t give z ht le u)))
+    ap (λ (p : RowPosting). creditRowOf (p .row) u take .row) (debit-row-calls row t give .done (omega arith) le)
+    ∙ ap (λ (p : RowPosting). p .row) (credit-row-calls (debitedRow row t give) u take .done (omega arith) (omega (arith, row-debits row t give .cells z ht le u)))

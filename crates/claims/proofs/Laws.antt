@@ -16,7 +16,7 @@ use Rattle.ledger.specs.declared.Row.{Row}
 use Rattle.ledger.specs.declared.RowPosting.{RowPosting}
 use Rattle.ledger.specs.Balances.{cellOf, creditedRow}
 use Rattle.ledger.specs.Postings.{creditRowOf}
-use Rattle.ledger.proofs.Laws.{credit-row-done}
+use Rattle.ledger.proofs.Laws.{credit-row-calls}
 use Rattle.model.specs.declared.state.Order.{Order}
 use Rattle.model.specs.declared.state.Ticket.{Ticket}
 use Rattle.model.specs.declared.state.TicketState.the-variants.{Free, Resting, Entered}
@@ -39,7 +39,7 @@ pub credited-part : (row : Row) (side : Side) (market got token : ℕ) (p : RowP
     → token ≡ wanted side market → p ≡ creditRowOf row token got → p .row ≡ creditedRow row (wanted side market) got
 credited-part row side market got token p h fits et ep =
     ap (λ (q : RowPosting). q .row)
-    (ep ∙ ap (λ (t : ℕ). creditRowOf row t got) et ∙ credit-row-done row (wanted side market) got (omega (arith, wanted-lt side market h)) fits)
+    (ep ∙ ap (λ (t : ℕ). creditRowOf row t got) et ∙ credit-row-calls row (wanted side market) got .done (omega (arith, wanted-lt side market h)) fits)
 
 -- what is left of an order, in its ticket
 pub left-part : (o : Order) (s : ℕ) (rest : Amount) (t : Ticket) → rest .0 ≡ o .offer .0 - s → t ≡ record { state = restingOr o (rest .0) }

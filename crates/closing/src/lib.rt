@@ -1,28 +1,21 @@
-// The next ticket that a market's round marks, and a market brought back to closed.
+// What a host asks to bring a market back to closed: how many tickets its round still marks, and which to claim next.
 ghost use mathlib.Core.Path.{_≡_};
-ghost use Rattle.model.specs.State.{roundIn};
 ghost use Rattle.model.specs.Run.{Reachable};
-ghost use Rattle.closing.specs.Closings.{nextMarked, Brought};
-use exchange::claim;
-use exchange::settle;
+ghost use Rattle.model.specs.State.{roundIn};
+ghost use Rattle.closing.specs.Closings.{markedIn, nextMarked};
 use model::answer::Answer;
+use model::answer::Refusal;
 use model::state::Exchange;
 use model::state::Market;
 use model::state::Phase;
 use ticket_set::Next;
+use ticket_set::count;
 use ticket_set::next_ticket;
 
 // The markets.
 const FIRST_MARKET: u32 = 1;
 
 const LAST_MARKET: u32 = 3;
-
-// What bringing a market back to closed answers: the settle's answer, how many calls were made, and the state after them.
-pub struct Closing {
-    pub answer: Answer,
-    pub calls: u32,
-    pub exchange: Exchange,
-}
 
 // The tickets that a market's round marks.
 fn marked(market: Market) -> u64
@@ -37,57 +30,30 @@ fn marked(market: Market) -> u64
     }
 }
 
-// The least ticket that a market's round marks.
-pub fn next_marked(x: Exchange, market: u32) -> Next
+// How many tickets a set has, and the lowest.
+fn told(set: u64) -> Answer
+    ensures { λ r. ⌜ r ≡ markedIn set ⌝ }
+{
+    let tickets = count(set);
+    let next = next_ticket(set);
+    match next {
+        Next::At(ticket) => Answer::Accepted(tickets, ticket),
+        Next::Nothing => Answer::Accepted(tickets, 0),
+    }
+}
+
+// How many tickets a market's round marks, and the lowest of them, the next to claim; 0 and 0 where none is marked.
+pub fn next_marked(x: Exchange, market: u32) -> Answer
     requires { ⌜ Reachable x ⌝ }
     ensures { λ r. ⌜ r ≡ nextMarked x market ⌝ }
 {
+    let refused = Answer::Refused(Refusal::NoSuchMarket);
     if market < FIRST_MARKET {
-        return Next::Nothing;
+        return refused;
     }
     if LAST_MARKET < market {
-        return Next::Nothing;
+        return refused;
     }
     let n = (market - 1) as usize;
-    next_ticket(marked(x.markets[n]))
-}
-
-// Settles a market and, where that is accepted, claims every ticket that its round marks, lowest first.
-pub fn close_market(x: Exchange, market: u32, block: u32) -> Closing
-    requires { ⌜ Reachable x ⌝ }
-    ensures { λ r. ⌜ Brought x market block r ⌝ }
-{
-    let settled = settle(x, market, block);
-    let answer = settled.answer;
-    let mut state = settled.exchange;
-    let mut calls = 1u32;
-    match answer {
-        Answer::Refused(_) => {
-            return Closing {
-                answer,
-                calls,
-                exchange: state,
-            };
-        }
-        Answer::Accepted(_, _) => {
-            loop {
-                let next = next_marked(state, market);
-                match next {
-                    Next::Nothing => {
-                        return Closing {
-                            answer,
-                            calls,
-                            exchange: state,
-                        };
-                    }
-                    Next::At(ticket) => {
-                        let claimed = claim(state, ticket);
-                        let after = claimed.exchange;
-                        state = after;
-                        calls += 1;
-                    }
-                }
-            }
-        }
-    }
+    told(marked(x.markets[n]))
 }

@@ -1,2 +1,5 @@
 pub mod Balances
 pub mod Postings
+pub mod Laws
+pub mod Examples
+pub mod LawExamples

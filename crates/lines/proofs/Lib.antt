@@ -2,4 +2,5 @@ pub mod AnswerLines
 pub mod CallLaws
 pub mod KeptLaws
 pub mod RoundTrip
+pub mod ReadingCode
 pub mod LineExamples

@@ -307,7 +307,7 @@ kind-written (k ∷ ks) w number fields c e =
     ∙ ap (λ (x : ℕ). x ∷ fields) (sym (eqb-true number (k .number) t)))
     (λ t. kind-written ks (w .1) number fields c (rw t at e))
 
-numbers-call : (ns : List ℕ) (c : Call) → callOf ns ≡ Read c → numbersOfCall c ≡ ns
+pub numbers-call : (ns : List ℕ) (c : Call) → callOf ns ≡ Read c → numbersOfCall c ≡ ns
 unfolding ofKind
 numbers-call [] c e = absurd (no-read c e)
 numbers-call (number ∷ fields) c e = kind-written kinds kinds-write number fields c e

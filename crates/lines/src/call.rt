@@ -4,6 +4,7 @@ ghost use Prim.Native.Nat.{_+_};
 ghost use mathlib.Core.List.{[], _∷_};
 ghost use lib.ListN.{length, drop, take};
 ghost use Rattle.lines.specs.CallLines.{callOf, readingOf, lineIn, lineAt};
+ghost use Rattle.lines.specs.ReadingCode.{readingCode, Tells};
 use fields::Fields;
 use fields::read_fields;
 use model::call::Call;
@@ -21,6 +22,16 @@ pub struct LineAt {
 }
 
 const LONGEST_LINE: usize = 80;
+
+// The paper's number of a reading: 0 where it is a call, 20 where it is none.
+pub fn reading_code(r: Reading) -> u32
+    ensures { λ n. ⌜ n ≡ readingCode r ⌝ }
+{
+    match r {
+        Reading::Read(_) => 0,
+        Reading::NoCall => 20,
+    }
+}
 
 // The call with one field.
 fn with_1(kind: u32, a: u32) -> Reading
@@ -164,6 +175,7 @@ pub fn line_end(bytes: &[u8], from: usize) -> usize
 // Reads the line that begins at a place.
 pub fn read_line(bytes: &[u8], from: usize) -> LineAt
     ensures { λ r. ⌜ r ≡ lineAt (now (bytes .entry)) from ⌝ }
+    ensures { λ r. ⌜ Tells (lineIn (drop from (now (bytes .entry)))) (r .reading) ⌝ }
 {
     let f = read_fields(bytes, from);
     let end = line_end(bytes, f.stop);
@@ -188,6 +200,7 @@ pub fn read_line(bytes: &[u8], from: usize) -> LineAt
 // Reads a line that stands alone, without its byte 10.
 pub fn read_call(line: &[u8]) -> Reading
     ensures { λ r. ⌜ r ≡ readingOf (now (line .entry)) ⌝ }
+    ensures { λ r. ⌜ Tells (now (line .entry)) r ⌝ }
 {
     let l = read_line(line, 0);
     if l.end < line.len() {

@@ -21,7 +21,12 @@ unfoldable pub run-computes : Unit {0}
 unfolding call-computes requestsFrom eventsOf stateAfter requestOf answerLine digits
 run-computes = tt
 
+-- what events say, and nothing of a state
+unfoldable pub past-computes : Unit {0}
+unfolding sharePaid shareGot down up sumTo sumOver only put withAccepted withEvent historyFrom roundsTotal
+past-computes = tt
+
 -- the history of its answers
 unfoldable pub history-computes : Unit {0}
-unfolding run-computes sumOver only put withAccepted withEvent historyFrom totalIn restingTotal roundsTotal
+unfolding run-computes past-computes totalIn restingTotal
 history-computes = tt

@@ -9,17 +9,17 @@ use Rattle.model.specs.WholeRun.{SettledTicket}
 use Rattle.model.specs.Scripts.{worked, callsOf, historyAfter, logAfter, shareFrom, workedAccounts, summed, depositsIn}
 use Rattle.model.proofs.Day.{has-round}
 use Rattle.model.specs.Kinds.{kinds}
-use Rattle.model.specs.Examples.{balancesMoved, ordersRested, collected, baseSold, quoteSold, firstRound, secondRound, secondPaid, bothSidesSold, nothingSold, threeSells, matchesBounded, quoteOfNothing, secondSettled, twoRoundsAccounts, examples, shownIn, shown, allShown, covers}
+use Rattle.model.specs.Examples.{balancesMoved, ordersRested, collected, baseSold, quoteSold, firstRound, secondRound, secondPaid, bothSidesSold, nothingSold, threeSells, matchesBounded, quoteOfNothing, lateMatches, lastPlacesEnded, lastPlacesSettled, lastPlacesPaid, lastBlocks, lastSettle, supplyFull, secondSettled, twoRoundsAccounts, examples, shownIn, shown, allShown, covers}
 use Rattle.model.proofs.Computing.{call-computes, history-computes}
 
 -- the definitions give every answer and every reading of every script
 pub examples-hold : map (worked freshExchange) examples ≡ examples
-unfolding examples balancesMoved ordersRested collected baseSold quoteSold firstRound secondRound secondPaid bothSidesSold nothingSold threeSells matchesBounded quoteOfNothing worked call-computes
+unfolding examples balancesMoved ordersRested collected baseSold quoteSold firstRound secondRound secondPaid bothSidesSold nothingSold threeSells matchesBounded quoteOfNothing lateMatches lastPlacesEnded lastPlacesSettled lastPlacesPaid lastBlocks lastSettle supplyFull worked call-computes
 examples-hold = refl
 
 -- every pair of a kind and a code that it tests occurs in them, and every kind is accepted
 pub all-shown : covers examples kinds ≡ true
-unfolding examples balancesMoved ordersRested collected baseSold quoteSold firstRound secondRound secondPaid bothSidesSold nothingSold threeSells matchesBounded quoteOfNothing shownIn shown allShown covers
+unfolding examples balancesMoved ordersRested collected baseSold quoteSold firstRound secondRound secondPaid bothSidesSold nothingSold threeSells matchesBounded quoteOfNothing lateMatches lastPlacesEnded lastPlacesSettled lastPlacesPaid lastBlocks lastSettle supplyFull shownIn shown allShown covers
 all-shown = refl
 
 -- the theorem's numbers on the two rounds, and that they add up

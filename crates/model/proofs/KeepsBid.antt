@@ -20,7 +20,7 @@ use Rattle.pricing.specs.declared.Side.{Side}
 use Rattle.pricing.specs.declared.Side.the-variants.{Buy, Sell}
 use Rattle.units.specs.Counts.{largest}
 use Rattle.units.specs.Sums.{only}
-use Rattle.ledger.proofs.Laws.{credited-total, debited-total}
+use Rattle.ledger.proofs.Laws.{credits, debits}
 use Rattle.model.proofs.Frames.{inside, markets-set, offered-lt, offered-split, tickets-round, wanted-lt, wanted-split}
 use Rattle.model.proofs.Inv.{Inv, MarketOk, PartOk, RoundOk, auction-is, changed-at, running-is}
 use Rattle.model.proofs.Reading.{Sized, account-credit, account-debit, inRounds-set, put-same, sized-block, sized-credit, sized-debit, sized-phase}
@@ -216,8 +216,8 @@ module _ (h : Exchange) (y : History) (i : Inv h y) (mk m at n q : ℕ) (x : Sid
   conserved1 u hu =
       omega (
         arith,
-        debited-total (h .ledger) m (wanted x mk) (gives x n q) (i .sized .shaped) hm (wanted-lt x mk lt4) funds u,
-        credited-total (h1 .ledger) m (offered x mk) (takes x n q) (sized1 .shaped) hm (offered-lt x mk lt4) u,
+        debits (h .ledger) m (wanted x mk) (gives x n q) .total (i .sized .shaped) hm (wanted-lt x mk lt4) funds u,
+        credits (h1 .ledger) m (offered x mk) (takes x n q) .total (sized1 .shaped) hm (offered-lt x mk lt4) u,
         inRounds-set y mk (running b1) pos lt4 u,
         holdsOf1 u,
         ap (λ (v : Current). currentHolds mk v u) er,

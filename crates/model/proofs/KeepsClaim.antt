@@ -24,7 +24,7 @@ use Rattle.pricing.specs.declared.Side.{Side}
 use Rattle.pricing.specs.declared.Side.the-variants.{Buy, Sell}
 use Rattle.ticket_set.specs.TicketSet.{bit, countOf, removed}
 use Rattle.units.specs.Sums.{only, sumOver}
-use Rattle.ledger.proofs.Laws.{credited-balance, credited-other, credited-total}
+use Rattle.ledger.proofs.Laws.{credits}
 use Rattle.model.proofs.Frames.{bounds-set, markets-set, placed-set, places-part, wanted-lt}
 use Rattle.model.proofs.Inv.{ClaimedOk, Inv, MarketOk, PartOk, RoundOk, WaitingOk, ended-at, entered-is, paying-is, running-is}
 use Rattle.model.proofs.Reading.{Sized, account-credit, fewer-of, inRounds-set, put-each, put-same, residue-plus, resting-set, sized-credit, sized-phase, sized-residue, sized-ticket, ticket-other, ticket-same}
@@ -293,7 +293,7 @@ module _ (h : Exchange) (y : History) (i : Inv h y) (k : ℕ) (hk : k < 64) (o :
   grown u =
       omega (
         arith,
-        credited-total (h .ledger) (o .member) (wanted side mk) got (i .sized .shaped) (oOk .member) (wanted-lt side mk (oOk .market-high)) u,
+        credits (h .ledger) (o .member) (wanted side mk) got .total (i .sized .shaped) (oOk .member) (wanted-lt side mk (oOk .market-high)) u,
         resting-set h k (restingOr o rest) (i .sized) hk u,
         resting2 u,
         resting-rest o rest u,
@@ -423,8 +423,8 @@ module _ (h : Exchange) (y : History) (i : Inv h y) (k : ℕ) (hk : k < 64) (o :
         other-tickets = λ j d. framed .0 j ∙ ticket-other h k (restingOr o rest) j d;
         payment =
             λ t lt. framed .1 (o .member) t
-            ∙ credited-balance (h .ledger) (o .member) (wanted side mk) got (i .sized .shaped) (oOk .member) (wanted-lt side mk (oOk .market-high)) t;
-        other-balances = λ m t d. framed .1 m t ∙ credited-other (h .ledger) (o .member) (wanted side mk) got m t d;
+            ∙ credits (h .ledger) (o .member) (wanted side mk) got .own (i .sized .shaped) (oOk .member) (wanted-lt side mk (oOk .market-high)) t;
+        other-balances = λ m t d. framed .1 m t ∙ credits (h .ledger) (o .member) (wanted side mk) got .others m t d;
       }
 
   pub shares-are : (s ≡ paidBy b terms n) × (got ≡ gotBy b terms n)

@@ -10,7 +10,7 @@ use Rattle.model.specs.State.{balance, supply, withSupply}
 use Rattle.model.specs.declared.state.Exchange.{Exchange}
 use Rattle.units.specs.Counts.{largest}
 use Rattle.units.specs.Sums.{only}
-use Rattle.ledger.proofs.Laws.{balance-le-total, credited-total, debited-total}
+use Rattle.ledger.proofs.Laws.{balances-within, credits, debits}
 use Rattle.model.proofs.Inv.{Inv, in-supply}
 use Rattle.model.proofs.Reading.{account-credit, account-debit, put-only, sized-credit, sized-debit, sized-supply, supply-minus, supply-plus}
 use Rattle.units.proofs.Decide.{Passed}
@@ -40,7 +40,7 @@ deposit-keeps h y m t n a b i p =
       markets = i .markets;
       books =
           record {
-            conserved = λ u hu. omega (arith, credited-total (h .ledger) m t n (i .sized .shaped) (omega arith) (omega arith) u, put-only (y .deposited) t n u, i .books .conserved u hu);
+            conserved = λ u hu. omega (arith, credits (h .ledger) m t n .total (i .sized .shaped) (omega arith) (omega arith) u, put-only (y .deposited) t n u, i .books .conserved u hu);
             supplied = λ u hu. omega (arith, zs u, put-only (y .deposited) t n u, i .books .supplied u hu);
             accounts = account-credit (h .ledger) (y .credits) (y .debits) (i .sized .shaped) m t n (omega arith) (omega arith) (i .books .accounts);
           };
@@ -55,7 +55,7 @@ withdraw-keeps h y m t n a b i p =
     let hm : m ≤ 15 = ltb-false 15 m (p .0) in
     let ht : t ≤ 3 = ltb-false 3 t (p .1 .0) in
     let hn : n ≤ balance h m t = ltb-false (balance h m t) n (p .1 .1 .1 .0) in
-    let hs : n ≤ supply h t = omega (arith, balance-le-total (h .ledger) m t (omega arith), in-supply i t (omega arith)) in
+    let hs : n ≤ supply h t = omega (arith, balances-within (h .ledger) m t (omega arith), in-supply i t (omega arith)) in
     let h1 : Exchange = withSupply h t (supply h t - n) in
     let zs : (u : ℕ) → supply h1 u + only t n u ≡ supply h u = λ u. supply-minus h t n u (omega (arith, i .sized .supplies)) hs in
     record {
@@ -65,7 +65,7 @@ withdraw-keeps h y m t n a b i p =
       markets = i .markets;
       books =
           record {
-            conserved = λ u hu. omega (arith, debited-total (h .ledger) m t n (i .sized .shaped) (omega arith) (omega arith) hn u, put-only (y .withdrawn) t n u, i .books .conserved u hu);
+            conserved = λ u hu. omega (arith, debits (h .ledger) m t n .total (i .sized .shaped) (omega arith) (omega arith) hn u, put-only (y .withdrawn) t n u, i .books .conserved u hu);
             supplied = λ u hu. omega (arith, zs u, put-only (y .withdrawn) t n u, i .books .supplied u hu);
             accounts = account-debit (h .ledger) (y .credits) (y .debits) (i .sized .shaped) m t n (omega arith) (omega arith) (i .books .accounts) hn;
           };

@@ -18,7 +18,7 @@ use Rattle.model.specs.declared.state.Order.{Order}
 use Rattle.model.specs.declared.state.TicketState.the-variants.{Free, Resting}
 use Rattle.units.specs.Counts.{amount, price}
 use Rattle.units.specs.Sums.{only}
-use Rattle.ledger.proofs.Laws.{credited-total, debited-total}
+use Rattle.ledger.proofs.Laws.{credits, debits}
 use Rattle.model.proofs.Frames.{bounds-set, inside, offered-lt, tickets-set}
 use Rattle.model.proofs.Inv.{Inv, free-is, resting-is}
 use Rattle.model.proofs.Reading.{Sized, account-credit, account-debit, resting-set, sized-credit, sized-debit, sized-ticket}
@@ -55,7 +55,7 @@ order-keeps h y k m mk sd lim n i p =
             conserved =
                 λ u hu. omega (
                   arith,
-                  debited-total (h .ledger) m tok n (i .sized .shaped) (omega arith) (offered-lt (sideOf sd) mk (omega arith)) hb u,
+                  debits (h .ledger) m tok n .total (i .sized .shaped) (omega arith) (offered-lt (sideOf sd) mk (omega arith)) hb u,
                   resting-set h1 k (Resting o) z1 lk u,
                   er u,
                   i .books .conserved u hu,
@@ -93,7 +93,7 @@ cancel-keeps h y k m i p =
             conserved =
                 λ u hu. omega (
                   arith,
-                  credited-total (h .ledger) (o .member) tok (o .offer .0) (i .sized .shaped) (ok .member) (offered-lt (o .side) (o .market) (ok .market-high)) u,
+                  credits (h .ledger) (o .member) tok (o .offer .0) .total (i .sized .shaped) (ok .member) (offered-lt (o .side) (o .market) (ok .market-high)) u,
                   resting-set h1 k Free z1 lk u,
                   er u,
                   i .books .conserved u hu,

@@ -4,6 +4,7 @@ pub mod Computing
 pub mod Edges
 pub mod Day
 pub mod Examples
+pub mod TicketOf
 pub mod Reading
 pub mod Inv
 pub mod Frames

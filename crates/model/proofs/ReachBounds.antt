@@ -19,13 +19,13 @@ use Rattle.pricing.specs.declared.Side.{Side}
 use Rattle.pricing.specs.declared.Side.the-variants.{Buy, Sell}
 use Rattle.ticket_set.specs.TicketSet.{bit}
 use Rattle.units.specs.Sums.{only}
-use Rattle.ledger.proofs.Laws.{balance-le-total}
+use Rattle.ledger.proofs.Laws.{balances-within}
 use Rattle.model.proofs.Inv.{Inv, MarketOk, Quiet, RoundOk, in-supply, running-is}
 use Rattle.model.proofs.KeepsClaim.{moved-le, offer-le, part-is, rOk, s-le}
 use Rattle.model.proofs.Reach.{reachable-inv}
 use Rattle.model.proofs.ReachClock.{reachable-clock}
 use Rattle.model.proofs.Rounds.{went-zero}
-use Rattle.model.proofs.WholeRun.{entered-of}
+use Rattle.model.proofs.TicketOf.{entered-of}
 use Rattle.ticket_set.proofs.Laws.{bit-of-empty}
 use Rattle.units.proofs.Sums.{only-zero, term-le}
 
@@ -170,7 +170,7 @@ module _ (x : Exchange) (y : History) (i : Inv x y) where
   within1 m k n t hm hk pn ln lt =
       omega (
         arith,
-        balance-le-total (x .ledger) m t hm,
+        balances-within (x .ledger) m t hm,
         resting-le x k t hk,
         heldOf-phase n t (phase x n) (y .rounds n) (i .markets n pn ln),
         round-le (y .rounds) n t pn ln,

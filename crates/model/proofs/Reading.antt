@@ -22,7 +22,7 @@ use Rattle.pricing.specs.declared.Side.the-variants.{Buy, Sell}
 use Rattle.units.specs.Counts.{amount}
 use Rattle.units.specs.Sums.{only, sumTo}
 use Rattle.units.specs.declared.Amount.{Amount}
-use Rattle.ledger.proofs.Laws.{credited-balance, credited-other, credited-shaped, debited-balance, debited-other, debited-shaped}
+use Rattle.ledger.proofs.Laws.{credits, debits}
 use Rattle.units.proofs.Sums.{only-add, only-other, only-same, sum-at}
 
 -- ---- a function with one value changed
@@ -68,8 +68,8 @@ module _ (l : Ledger) (c d : ℕ → ℕ → ℕ) (z : Shaped l) (m t n : ℕ) (
       go : Dec (j ≡ m) → balanceIn (credited l m t n) j u + d j u ≡ addedTo c m t n j u
       go (yes e) =
           subst (λ (a : ℕ). balanceIn (credited l m t n) a u + d a u ≡ addedTo c m t n a u) (sym e)
-          (omega (arith, credited-balance l m t n z hm ht u, added-same c m t n u, kept m hm u hu))
-      go (no a) = omega (arith, credited-other l m t n j u a, added-other c m t n j u a, kept j hj u hu)
+          (omega (arith, credits l m t n .own z hm ht u, added-same c m t n u, kept m hm u hu))
+      go (no a) = omega (arith, credits l m t n .others j u a, added-other c m t n j u a, kept j hj u hu)
 
   pub account-debit : n ≤ balanceIn l m t → (j : ℕ) → j < 16 → (u : ℕ) → u < 4 → balanceIn (debited l m t n) j u + addedTo d m t n j u ≡ c j u
   account-debit le j hj u hu = go (ℕ-discrete j m)
@@ -77,8 +77,8 @@ module _ (l : Ledger) (c d : ℕ → ℕ → ℕ) (z : Shaped l) (m t n : ℕ) (
       go : Dec (j ≡ m) → balanceIn (debited l m t n) j u + addedTo d m t n j u ≡ c j u
       go (yes e) =
           subst (λ (a : ℕ). balanceIn (debited l m t n) a u + addedTo d m t n a u ≡ c a u) (sym e)
-          (omega (arith, debited-balance l m t n z hm ht le u, added-same d m t n u, kept m hm u hu))
-      go (no a) = omega (arith, debited-other l m t n j u a, added-other d m t n j u a, kept j hj u hu)
+          (omega (arith, debits l m t n .own z hm ht le u, added-same d m t n u, kept m hm u hu))
+      go (no a) = omega (arith, debits l m t n .others j u a, added-other d m t n j u a, kept j hj u hu)
 
 -- per token, from per side: the quote and the base of a market are two tokens
 pub fewer-of : (mk : ℕ) (b : RoundLog) (n : ℕ) → 0 < mk → 0 < n → ((x : Side) → holds b x < n) → (t : ℕ) → holdsOf mk b t < n
@@ -109,10 +109,10 @@ pub sized-ledger : (h : Exchange) (l : Ledger) → Shaped l → Sized h → Size
 sized-ledger h l s z = record { shaped = s; supplies = z .supplies; residues = z .residues; tickets = z .tickets; markets = z .markets }
 
 pub sized-credit : (h : Exchange) (m t n : ℕ) → Sized h → Sized (credit h m t n)
-sized-credit h m t n z = sized-ledger h (credited (h .ledger) m t n) (credited-shaped (h .ledger) m t n (z .shaped)) z
+sized-credit h m t n z = sized-ledger h (credited (h .ledger) m t n) (credits (h .ledger) m t n .shaped (z .shaped)) z
 
 pub sized-debit : (h : Exchange) (m t n : ℕ) → Sized h → Sized (debit h m t n)
-sized-debit h m t n z = sized-ledger h (debited (h .ledger) m t n) (debited-shaped (h .ledger) m t n (z .shaped)) z
+sized-debit h m t n z = sized-ledger h (debited (h .ledger) m t n) (debits (h .ledger) m t n .shaped (z .shaped)) z
 
 pub sized-supply : (h : Exchange) (t n : ℕ) → Sized h → Sized (withSupply h t n)
 sized-supply h t n z =

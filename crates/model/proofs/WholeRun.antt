@@ -4,16 +4,16 @@ use mathlib.Core.Bool.{Bool, cond, false, not, true}
 use mathlib.Core.List.{List, [], _∷_}
 use mathlib.Core.Path.{_∙_, _≡_, ap, refl, subst, subst₂, sym}
 use native.Mathlib.Omega.{arith}
-use lib.Dec.{eqb, ltb}
+use lib.Dec.{ltb}
 use lib.ListN.{getD, getD-replicate, length, replicate}
-use borrow.Author.Tests.{eqb-true, le-ltb}
+use borrow.Author.Tests.{le-ltb}
 use Rattle.model.specs.Answers.{answerLine, codeOf}
 use Rattle.model.specs.Bounds.{TicketBounds}
 use Rattle.model.specs.Calls.{claimWith, doneOf, refuse, testsOf}
-use Rattle.model.specs.History.{Current, History, Part, RoundLog, OrderTerms, absent, historyFrom, historyOf, idle, noHistory, running, settled, waiting, withEvent}
+use Rattle.model.specs.History.{Current, History, RoundLog, OrderTerms, historyFrom, historyOf, idle, noHistory, running, settled, withEvent}
 use Rattle.model.specs.Run.{Request, eventsOf, requestOf, stateAfter, stepOf}
 use Rattle.model.specs.State.{closedMarket, freeTicket, freshExchange, isEntered, isFree, isPaying, orderIn, phase, roundIn, ticket}
-use Rattle.model.specs.WholeRun.{PaysOut, RoundPays, SettledTicket, Whole, WholeRun, enteredIn, gotBy, nil, orderWith, paidBy, partIn, placedIn, putBy, restingIn, restingTotal, roundsTotal, termsOf, unclaimed}
+use Rattle.model.specs.WholeRun.{PaysOut, RoundPays, SettledTicket, Whole, WholeRun, enteredIn, gotBy, nil, orderWith, paidBy, partIn, placedIn, putBy, restingIn, restingTotal, roundsTotal, unclaimed}
 use Rattle.model.specs.declared.answer.Answer.the-variants.{Accepted, Refused}
 use Rattle.model.specs.declared.answer.Outcome.{Outcome}
 use Rattle.model.specs.declared.answer.Refusal.{Refusal}
@@ -26,12 +26,11 @@ use Rattle.model.specs.declared.state.Phase.{Phase}
 use Rattle.model.specs.declared.state.Phase.the-variants.{Auction, Closed, Collect, Paying}
 use Rattle.model.specs.declared.state.Round.{Round}
 use Rattle.model.specs.declared.state.Ticket.{Ticket}
-use Rattle.model.specs.declared.state.TicketState.{TicketState}
-use Rattle.model.specs.declared.state.TicketState.the-variants.{Entered, Free, Resting}
+use Rattle.model.specs.declared.state.TicketState.the-variants.{Entered, Free}
 use Rattle.units.specs.Counts.{amount}
 use Rattle.units.specs.Sums.{sumOver}
 use Rattle.units.specs.declared.Amount.{Amount}
-use Rattle.ledger.proofs.Laws.{fresh-balance, fresh-shaped, fresh-total}
+use Rattle.ledger.proofs.Laws.{fresh-all-zero}
 use Rattle.model.proofs.Codes.{codes-rising, refusal-code}
 use Rattle.model.proofs.Inv.{Inv, MarketOk}
 use Rattle.model.proofs.KeepsBid.{bid-keeps}
@@ -44,6 +43,7 @@ use Rattle.model.proofs.KeepsOrders.{cancel-keeps, order-keeps}
 use Rattle.model.proofs.KeepsSettle.{settle-keeps}
 use Rattle.model.proofs.Rounds.{round-pays}
 use Rattle.model.proofs.Steps.{step-apart, step-passed}
+use Rattle.model.proofs.TicketOf.{entered-of}
 use Rattle.units.proofs.Decide.{Passed}
 use Rattle.units.proofs.Sums.{sum-zero}
 use Rattle.model.specs.declared.call.Call.the-variants as Call
@@ -108,15 +108,15 @@ put-nothing t = refl
 pub fresh-inv : Inv freshExchange noHistory
 fresh-inv =
     record {
-      sized = record { shaped = fresh-shaped; supplies = refl; residues = refl; tickets = refl; markets = refl };
+      sized = record { shaped = fresh-all-zero .shaped; supplies = refl; residues = refl; tickets = refl; markets = refl };
       bounded = λ t l. omega (arith, zeros t l);
       ticket-bounds = λ k l. subst TicketBounds (sym (fresh-ticket k l)) tt;
       markets = λ n p l. subst (λ (v : Phase). MarketOk v idle) (sym (fresh-phase n l)) tt;
       books =
           record {
-            conserved = λ t l. omega (arith, fresh-total t l, fresh-resting t, fresh-rounds t, zeros t l);
+            conserved = λ t l. omega (arith, fresh-all-zero .totals t l, fresh-resting t, fresh-rounds t, zeros t l);
             supplied = λ t l. omega (arith, zeros t l);
-            accounts = λ m lm t lt. omega (arith, fresh-balance m t lm lt);
+            accounts = λ m lm t lt. omega (arith, fresh-all-zero .balances m t lm lt);
           };
       tickets =
           record {
@@ -163,27 +163,6 @@ module _ (h : Exchange) (k : ℕ) (hk : k < 64) (o : Order) (r : Round) (et : ti
   request-passes line room l =
       ap (λ (out : Outcome). cond (ltb room (length (answerLine line (out .answer)))) (refuse h BufferTooShort) out) claim-passes
       ∙ ap (λ (q : Bool). cond q (refuse h BufferTooShort) (claimWith h k o r)) (le-ltb room (length (answerLine line (claimWith h k o r .answer))) l)
-
-same-order : (t t′ : OrderTerms) (mk mk′ n n′ : ℕ) → t ≡ t′ → mk ≡ mk′ → n ≡ n′ → Entered (orderWith t mk n) ≡ Entered (orderWith t′ mk′ n′)
-same-order t t′ mk mk′ n n′ a b c = rw (a, b, c)
-
--- a ticket whose part waits in a market's round is entered there, with that part's order
-pub entered-of : (s : TicketState) (terms : OrderTerms) (market o : ℕ) → enteredIn s market ≡ waiting terms o → s ≡ Entered (orderWith terms market o)
-entered-of Free terms market o e = absurd (let z : _≡_ {A = ℕ} 0 1 = cc in omega arith)
-entered-of (Resting d) terms market o e = absurd (let z : _≡_ {A = ℕ} 0 1 = cc in omega arith)
-entered-of (Entered d) terms market o e = go (eqb market (d .market)) refl e
-  where
-    own : Part
-    own = waiting (termsOf d) (d .offer .0)
-
-    go : (q : Bool) → eqb market (d .market) ≡ q → cond (eqb market (d .market)) own absent ≡ waiting terms o → Entered d ≡ Entered (orderWith terms market o)
-    go true q f =
-        let m : market ≡ d .market = eqb-true market (d .market) q in
-        let g : waiting (termsOf d) (d .offer .0) ≡ waiting terms o = rw q at f in
-        same-order (termsOf d) terms (d .market) market (d .offer .0) o (cc) (sym m) (cc)
-    go false q f =
-        let g : absent ≡ waiting terms o = rw q at f in
-        absurd (let z : _≡_ {A = ℕ} 0 1 = cc in omega arith)
 
 module _ (h : Exchange) (y : History) (i : Inv h y) (k : ℕ) (terms : OrderTerms) (market o : ℕ) (b : RoundLog) (st : SettledTicket y k terms market o b) where
   abbrev order : Order

@@ -615,6 +615,218 @@ quoteOfNothing =
     ∷ residue-is 1 0
     ∷ []
 
+-- "Auction starts at this block": two rounds that are matched long after their 4 blocks are over, each with its own start. In market 1 makers
+-- take base, start 23, L 7: from the open or from 4 blocks after it every k would be above L. In market 3 they take quote, start 25, L 37: from
+-- there every price would be another. A million base at a price p is p quote, so that a unit of the price shows.
+unfoldable pub lateMatches : List Line
+lateMatches =
+    accepted (Deposit 0 0 900) 900 0
+    ∷ accepted (Deposit 1 1 7000003) 7000003 0
+    ∷ accepted (Deposit 15 1 2999997) 2999997 0
+    ∷ accepted (Deposit 2 0 6000001) 6000001 0
+    ∷ accepted (Deposit 15 0 3999999) 3999999 0
+    ∷ accepted (Deposit 3 3 1000000) 1000000 0
+    ∷ accepted (Deposit 4 0 1030) 1030 0
+    ∷ accepted (Deposit 4 3 3000001) 3000001 0
+    ∷ accepted (Order 5 0 1 0 360 900) 900 0
+    ∷ accepted (Order 10 1 1 1 240 7000003) 7000003 0
+    ∷ accepted (Order 63 15 1 1 240 2999997) 2999997 0
+    ∷ accepted (Order 20 2 3 0 2750000 6000001) 6000001 0
+    ∷ accepted (Order 62 15 3 0 2750000 3999999) 3999999 0
+    ∷ accepted (Order 0 3 3 1 2250000 1000000) 1000000 0
+    -- 300 × 1.2 and × 0.8; 2,500,000 × 1.1 and × 0.9
+    ∷ accepted (Open 1 10 300 200000 7) 360 240
+    ∷ accepted (Open 3 11 2500000 100000 37) 2750000 2250000
+    ∷ accepted (Enter 5) 900 0
+    ∷ accepted (Enter 10) 7000003 0
+    ∷ accepted (Enter 63) 10000000 0
+    ∷ accepted (Enter 20) 6000001 0
+    ∷ accepted (Enter 62) 10000000 0
+    ∷ accepted (Enter 0) 1000000 0
+    -- Q 900, S 10,000,000: 900 / 0.0003 is 3,000,000
+    ∷ accepted (Match 1 23) 3000000 900
+    -- k 0: price 360
+    ∷ refused (Bid 1 4 23 1 1000000 359) 18
+    ∷ accepted (Bid 1 4 23 1 1000000 360) 1000000 360
+    -- Q 10,000,000, S 1,000,000: c 1,000,000 × 2.5
+    ∷ accepted (Match 3 25) 1000000 2500000
+    -- k 0: price 2,250,000
+    ∷ refused (Bid 3 4 25 0 1000000 2250001) 18
+    ∷ accepted (Bid 3 4 25 0 1000000 2250000) 1000000 2250000
+    -- k 3: 120 × 3 / 7 is 51.4, the price 309
+    ∷ refused (Bid 1 4 26 1 1000000 308) 18
+    ∷ accepted (Bid 1 4 26 1 1000000 309) 1000000 309
+    -- k 7 = L: price 240; 1,500,001 × 0.00024 is 360.00024, up 361
+    ∷ refused (Bid 1 4 30 1 1500001 360) 18
+    ∷ accepted (Bid 1 4 30 1 1500001 361) 1500001 361
+    -- 3,499,999 base left: k 7 is 13, k 8 is 16 and settles
+    ∷ refused (Settle 1 30) 13
+    ∷ refused (Bid 1 4 31 1 1 1) 16
+    ∷ accepted (Settle 1 31) 900 6500001
+    -- k 13: 500,000 × 13 / 37 is 175,675.7, the price 2,425,675
+    ∷ refused (Bid 3 4 38 0 1000000 2425676) 18
+    ∷ accepted (Bid 3 4 38 0 1000000 2425675) 1000000 2425675
+    -- k 37 = L: 1,000,001 × 2.75 is 2,750,002.75, down
+    ∷ refused (Bid 3 4 62 0 1000001 2750003) 18
+    ∷ accepted (Bid 3 4 62 0 1000001 2750002) 1000001 2750002
+    -- 74,323 quote left: k 37 is 13, k 38 is 16 and settles
+    ∷ refused (Settle 3 62) 13
+    ∷ refused (Bid 3 4 63 0 1 0) 16
+    ∷ accepted (Settle 3 63) 9925677 1000000
+    -- the maker paid 360 + 309 + 361 and took 2,250,000 + 2,425,675 + 2,750,002
+    ∷ balance-is 4 0 7425677
+    ∷ balance-is 4 1 3500001
+    ∷ balance-is 4 3 0
+    -- market 1's sells: T 10,000,000, P 6,500,001, G 900 + 1030. 4,550,002.7 and 1351.0006; 1,949,998.3 and 578.9994
+    ∷ accepted (Claim 10) 4550003 1351
+    ∷ accepted (Claim 5) 900 3000000
+    ∷ accepted (Claim 63) 1949999 578
+    -- 1930 - 1929 quote; 6,500,002 paid where 6,500,001 were sold
+    ∷ residue-is 0 1
+    ∷ residue-is 1 1
+    ∷ closed-is 1 true
+    -- market 3's buys: T 10,000,000, P 9,925,677, G 4,000,001. 3,970,269.8 and 1,599,999.9999999; 5,955,407.2 and 2,400,001.0000001
+    ∷ accepted (Claim 62) 3970270 1599999
+    ∷ accepted (Claim 0) 1000000 2500000
+    ∷ accepted (Claim 20) 5955408 2400001
+    ∷ residue-is 0 2
+    ∷ residue-is 2 0
+    ∷ residue-is 3 1
+    ∷ closed-is 3 true
+    ∷ accepted (Cancel 10 1) 2450000 0
+    ∷ accepted (Cancel 63 15) 1049998 0
+    ∷ accepted (Cancel 62 15) 29729 0
+    ∷ accepted (Cancel 20 2) 44593 0
+    -- 578 + 29,729 quote
+    ∷ balance-is 15 0 30307
+    ∷ balance-is 15 1 1049998
+    ∷ balance-is 15 3 1599999
+    ∷ balance-is 1 0 1351
+    ∷ balance-is 2 3 2400001
+    ∷ balance-is 3 0 2500000
+    ∷ []
+
+-- The last market, ticket, member and token. The edge of the three buys in market 3: T 301, P 200, G 80, and each ticket keeps 33.
+unfoldable pub lastPlacesEnded : List Line
+lastPlacesEnded =
+    accepted (Deposit 15 0 301) 301 0
+    ∷ accepted (Deposit 14 3 90) 90 0
+    ∷ accepted (Order 61 15 3 0 2500000 100) 100 0
+    ∷ accepted (Order 62 15 3 0 2500000 100) 100 0
+    ∷ accepted (Order 63 15 3 0 2500000 101) 101 0
+    ∷ accepted (Order 0 14 3 1 2500000 80) 80 0
+    ∷ accepted (Open 3 10 2500000 0 10) 2500000 2500000
+    ∷ accepted (Enter 61) 100 0
+    ∷ accepted (Enter 62) 200 0
+    ∷ accepted (Enter 63) 301 0
+    ∷ accepted (Enter 0) 80 0
+    ∷ accepted (Match 3 14) 80 200
+    ∷ refused (Settle 3 24) 13
+    ∷ accepted (Settle 3 25) 200 80
+    ∷ accepted (Claim 62) 67 26
+    ∷ accepted (Claim 63) 68 26
+    ∷ accepted (Claim 0) 80 200
+    ∷ accepted (Claim 61) 67 26
+    ∷ residue-is 0 2
+    ∷ residue-is 3 2
+    ∷ []
+
+-- Ticket 63 takes another order, a sell. At a price of 1, two sells of 5 share what a buy and a maker paid: T 10, P 3 + 4, G 3 + 4. One of
+-- them has claimed, ticket 63 not yet; a round of market 1 came and went without tickets.
+unfoldable pub lastPlacesSettled : List Line
+lastPlacesSettled =
+    accepted (Cancel 63 15) 33 0
+    ∷ accepted (Order 63 15 3 1 1000000 5) 5 0
+    ∷ accepted (Order 1 15 3 1 1000000 5) 5 0
+    ∷ accepted (Order 2 14 3 0 1000000 3) 3 0
+    ∷ accepted (Open 3 25 1000000 0 1) 1000000 1000000
+    ∷ accepted (Enter 1) 5 0
+    ∷ accepted (Enter 63) 10 0
+    ∷ accepted (Enter 2) 3 0
+    ∷ accepted (Match 3 29) 3 3
+    ∷ accepted (Bid 3 14 29 1 4 4) 4 4
+    ∷ refused (Settle 3 30) 13
+    ∷ accepted (Settle 3 31) 3 7
+    -- 3.5 up and down
+    ∷ accepted (Claim 1) 4 3
+    ∷ accepted (Open 1 31 1 0 1) 1 1
+    ∷ accepted (Match 1 35) 0 0
+    ∷ accepted (Settle 1 35) 0 0
+    ∷ accepted (Withdraw 15 3 1) 67 0
+    ∷ []
+
+-- The other claims, and 1 and 1 more into the residue.
+unfoldable pub lastPlacesPaid : List Line
+lastPlacesPaid =
+    accepted (Claim 63) 4 3
+    ∷ accepted (Claim 2) 3 3
+    ∷ residue-is 0 3
+    ∷ supply-is 0 301
+    ∷ supply-is 1 0
+    ∷ supply-is 3 89
+    ∷ residue-is 1 0
+    ∷ residue-is 3 3
+    ∷ closed-is 3 true
+    ∷ balance-is 15 0 39
+    ∷ balance-is 15 3 67
+    ∷ balance-is 14 0 193
+    ∷ balance-is 14 3 17
+    ∷ []
+
+abbrev pub lastPlaces : List Line
+lastPlaces = lastPlacesEnded ++ lastPlacesSettled ++ lastPlacesPaid
+
+-- An auction whose start + L is 4,294,967,294: one block is left to settle at.
+unfoldable pub lastBlocks : List Line
+lastBlocks =
+    accepted (Deposit 0 0 5) 5 0
+    ∷ accepted (Order 0 0 1 0 1000000 5) 5 0
+    ∷ accepted (Open 1 4294967280 1000000 0 10) 1000000 1000000
+    ∷ accepted (Enter 0) 5 0
+    ∷ accepted (Match 1 4294967284) 0 0
+    ∷ []
+
+unfoldable pub lastSettle : List Line
+lastSettle =
+    refused (Settle 1 4294967294) 13
+    ∷ accepted (Settle 1 4294967295) 0 0
+    ∷ accepted (Claim 0) 0 0
+    ∷ closed-is 1 true
+    ∷ []
+
+-- "deposits less withdrawals of the token would pass 4,294,967,295", wherever its units are: in tickets that rest, in a round, in the residue.
+-- All quote is there, and all base of market 2 but 1.
+unfoldable pub supplyFull : List Line
+supplyFull =
+    accepted (Deposit 0 0 4294967295) 4294967295 0
+    ∷ accepted (Deposit 1 2 4294967294) 4294967294 0
+    ∷ accepted (Order 0 0 2 0 1000000 7) 7 0
+    ∷ accepted (Order 1 1 2 1 1000000 5) 5 0
+    ∷ accepted (Order 2 1 2 1 1000000 5) 5 0
+    ∷ refused (Deposit 2 0 1) 14
+    ∷ accepted (Open 2 0 1000000 0 1) 1000000 1000000
+    ∷ accepted (Enter 0) 7 0
+    ∷ accepted (Enter 1) 5 0
+    ∷ accepted (Enter 2) 10 0
+    ∷ refused (Deposit 2 0 1) 14
+    ∷ accepted (Match 2 4) 7 7
+    -- another market takes the last block past the end of this auction: 12 and 16; 16
+    ∷ accepted (Open 3 10 1 0 1) 1 1
+    ∷ refused (Bid 2 1 9 1 1 1) 12
+    ∷ refused (Bid 2 1 10 1 1 1) 16
+    ∷ accepted (Settle 2 10) 7 7
+    -- sells: T 10, P 7, G 7. 3.5 up and down
+    ∷ accepted (Claim 1) 4 3
+    ∷ accepted (Claim 0) 7 7
+    ∷ accepted (Claim 2) 4 3
+    -- 7 - 6 quote, 10 - 2 - 7 base
+    ∷ residue-is 0 1
+    ∷ residue-is 2 1
+    ∷ refused (Deposit 2 0 1) 14
+    ∷ refused (Deposit 2 2 2) 14
+    ∷ accepted (Deposit 2 2 1) 1 0
+    ∷ []
+
 -- ---- all of them
 
 unfoldable pub examples : List (List Line)
@@ -630,6 +842,10 @@ examples =
     ∷ threeSells
     ∷ matchesBounded
     ∷ quoteOfNothing
+    ∷ lateMatches
+    ∷ lastPlaces
+    ∷ (lastBlocks ++ lastSettle)
+    ∷ supplyFull
     ∷ []
 
 -- ---- the numbers of a whole run on the two rounds

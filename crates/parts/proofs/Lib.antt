@@ -1,2 +1,4 @@
+pub mod OneRow
+pub mod RowsKept
 pub mod OnParts
 pub mod PartBounds

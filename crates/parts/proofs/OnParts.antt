@@ -17,8 +17,8 @@ use Rattle.ticket_set.specs.TicketSet.{countOf}
 use Rattle.pricing.specs.declared.Side.{Side}
 use Rattle.ledger.specs.declared.Row.{Row}
 use Rattle.ledger.specs.declared.Ledger.{Ledger}
-use Rattle.ledger.specs.Balances.{cellOf, creditedRow, debitedRow, rowOf, withRow, credited, debited, Shaped}
-use Rattle.ledger.proofs.Laws.{balance-row, credited-row, debited-row, row-same, row-again, put-back}
+use Rattle.ledger.specs.Balances.{cellOf, creditedRow, rowOf, withRow, credited, Shaped}
+use Rattle.ledger.proofs.Laws.{rows-taken, rows-put-back}
 use Rattle.model.specs.declared.state.Order.{Order}
 use Rattle.model.specs.declared.state.Ticket.{Ticket}
 use Rattle.model.specs.declared.state.TicketState.{TicketState}
@@ -37,9 +37,10 @@ use Rattle.parts.specs.declared.Form.the-variants.{Good, Bad}
 use Rattle.model.specs.Sides.{sideOf, offered, wanted, gives, takes}
 use Rattle.model.specs.State.{supply, lastBlock, ticket, freeTicket, orderIn, isFree, restingOr, phase, closedMarket, roundIn, marketAt, setMarket, setLedger, setSupply, setResidue, setTickets, setMarkets, setLast, withTicket, withPhase, credit, toResidue}
 use Rattle.model.specs.Calls.{bankForm, orderForm, cancelForm, openForm, ticketForm, marketForm, bidForm, depositRest, withdrawRest, orderRest, cancelRest, openRest, enterRest, matchRest, bidRest, settleRest, claimRest, accept, refuse, above, outside, bidQuote, bidRound, depositOf, depositDone, withdrawOf, orderOf, orderDone, cancelOf, cancelDone, openOf, openDone, enterOf, enterWith, enterDone, matchOf, matchDone, bidOf, bidDone, settleOf, settleDone, claimedRound, payingOrClosed, claimOf, claimWith, claimDone, shareIn, gotIn, orderFrom}
-use Rattle.model.specs.Bounds.{Bounded, TicketBounds}
+use Rattle.model.specs.Bounds.{Bounded, OrderBounds, TicketBounds}
 use Rattle.parts.specs.Parts.{formOf, byForm, ticketMarket, ticketMember, supplyAt, residueAt, ticketAt, refusedBanked, depositedOn, depositOn, withdrawnOn, withdrawOn, putBanked, refusedPlaced, orderedOn, orderOn, cancelledOn, cancelOn, putPlaced, refusedMoved, openedOn, openOn, matchedOn, matchOn, settledOn, settleOn, putMoved, refusedJoined, enteredOn, enterOn, putJoined, refusedTraded, tradedOn, bidOn, putTraded, refusedClaimed, paidOn, claimOn, putClaimed}
-use Rattle.model.proofs.Frames.{inside}
+use Rattle.model.proofs.Frames.{inside, offered-lt, wanted-lt}
+use Rattle.parts.proofs.OneRow.{credited-by-row, debited-by-row, traded-by-row}
 
 -- ---- forms
 
@@ -57,20 +58,24 @@ unfolding formOf
 form-good ts e = passed-by (λ (f : Form). f ≡ Good) Bad Good (λ r q. absurd (let z : _≡_ {A = ℕ} 0 1 = cc in omega arith)) ts e
 
 -- the places that a good form names
-pub bank-places : (m t n : ℕ) → formOf (bankForm m t n) ≡ Good → (m < 16) × (t < 4)
-bank-places m t n e =
-    let p = form-good (bankForm m t n) e in
-    (omega (arith, ltb-false 15 m (p .0)), omega (arith, ltb-false 3 t (p .1 .0)))
+bank-in : (m t n : ℕ) → Passed (bankForm m t n) → (m < 16) × (t < 4)
+bank-in m t n p = (omega (arith, ltb-false 15 m (p .0)), omega (arith, ltb-false 3 t (p .1 .0)))
 
-pub order-places : (k m n side limit a : ℕ) → formOf (orderForm k m n side limit a) ≡ Good → (k < 64) × (m < 16) × (n < 4)
-order-places k m n side limit a e =
-    let p = form-good (orderForm k m n side limit a) e in
+pub bank-places : (m t n : ℕ) → formOf (bankForm m t n) ≡ Good → (m < 16) × (t < 4)
+bank-places m t n e = bank-in m t n (form-good (bankForm m t n) e)
+
+order-in : (k m n side limit a : ℕ) → Passed (orderForm k m n side limit a) → (k < 64) × (m < 16) × (n < 4)
+order-in k m n side limit a p =
     (omega (arith, ltb-false 63 k (p .1 .1 .0)), omega (arith, ltb-false 15 m (p .0)), omega (arith, inside n 1 3 (p .1 .0) .1))
 
+pub order-places : (k m n side limit a : ℕ) → formOf (orderForm k m n side limit a) ≡ Good → (k < 64) × (m < 16) × (n < 4)
+order-places k m n side limit a e = order-in k m n side limit a (form-good (orderForm k m n side limit a) e)
+
+cancel-in : (k m : ℕ) → Passed (cancelForm k m) → (k < 64) × (m < 16)
+cancel-in k m p = (omega (arith, ltb-false 63 k (p .1 .0)), omega (arith, ltb-false 15 m (p .0)))
+
 pub cancel-places : (k m : ℕ) → formOf (cancelForm k m) ≡ Good → (k < 64) × (m < 16)
-cancel-places k m e =
-    let p = form-good (cancelForm k m) e in
-    (omega (arith, ltb-false 63 k (p .1 .0)), omega (arith, ltb-false 15 m (p .0)))
+cancel-places k m e = cancel-in k m (form-good (cancelForm k m) e)
 
 pub open-places : (n r w len : ℕ) → formOf (openForm n r w len) ≡ Good → (0 < n) × (n < 4) × (r ≤ highestReference) × (w ≤ highestSlack)
 open-places n r w len e =
@@ -87,11 +92,13 @@ market-in n e =
     let i = inside n 1 3 (form-good (marketForm n) e .0) in
     (omega (arith, i .0), omega (arith, i .1))
 
-pub bid-places : (n m side a : ℕ) → formOf (bidForm n m side a) ≡ Good → (0 < n) × (n < 4) × (m < 16)
-bid-places n m side a e =
-    let p = form-good (bidForm n m side a) e in
+bid-in : (n m side a : ℕ) → Passed (bidForm n m side a) → (0 < n) × (n < 4) × (m < 16)
+bid-in n m side a p =
     let i = inside n 1 3 (p .1 .0) in
     (omega (arith, i .0), omega (arith, i .1), omega (arith, ltb-false 15 m (p .0)))
+
+pub bid-places : (n m side a : ℕ) → formOf (bidForm n m side a) ≡ Good → (0 < n) × (n < 4) × (m < 16)
+bid-places n m side a e = bid-in n m side a (form-good (bidForm n m side a) e)
 
 -- ---- parts put back as they were
 
@@ -118,9 +125,9 @@ back x l s r t m w el es er et em = rw (el, es, er, et, em)
 
 -- ---- 1, 2
 
-module _ (x : Exchange) (m t : ℕ) where
+module _ (x : Exchange) (z : Shaped (x .ledger)) (m t : ℕ) where
   bank-back : (w : Refusal) → putBanked x m t (refusedBanked (rowOf (x .ledger) m) (supplyAt x t) w) ≡ refuse x w
-  bank-back w = back x _ _ (x .residue) (x .tickets) (x .markets) w (put-back (x .ledger) m) (set-getD (x .supply) t (amount 0)) refl refl refl
+  bank-back w = back x _ _ (x .residue) (x .tickets) (x .markets) w (rows-put-back (x .ledger) m) (set-getD (x .supply) t (amount 0)) refl refl refl
 
   pub deposit-on : (n : ℕ) → depositOf x m t n ≡ byForm (formOf (bankForm m t n)) (refuse x) (putBanked x m t (depositOn (rowOf (x .ledger) m) (supplyAt x t) t n))
   unfolding depositOf depositOn
@@ -129,23 +136,28 @@ module _ (x : Exchange) (m t : ℕ) where
       let us : List (Test Refusal) = depositRest (supply x t) n in
       on-form x (bankForm m t n) us (depositDone x m t n) _ (λ f.
       sym (decide-carried (putBanked x m t) (refusedBanked row (supplyAt x t)) (depositedOn row (supplyAt x t) t n) (refuse x) (depositDone x m t n) us bank-back
-      (λ p. rw (balance-row (x .ledger) m t, credited-row (x .ledger) m t n))))
+      (λ p. rw (sym (rows-taken (x .ledger) m .cells t), credited-by-row (x .ledger) m z (bank-in m t n f .0) t n (bank-in m t n f .1)))))
 
   pub withdraw-on : (n : ℕ) → withdrawOf x m t n ≡ byForm (formOf (bankForm m t n)) (refuse x) (putBanked x m t (withdrawOn (rowOf (x .ledger) m) (supplyAt x t) t n))
   unfolding withdrawOf withdrawOn
   withdraw-on n =
       let row : Row = rowOf (x .ledger) m in
       let us : List (Test Refusal) = withdrawRest (cellOf row t) n in
-      rw (balance-row (x .ledger) m t)
+      rw (sym (rows-taken (x .ledger) m .cells t))
       (on-form x (bankForm m t n) us _ _ (λ f.
       sym (decide-carried (putBanked x m t) (refusedBanked row (supplyAt x t)) (withdrawnOn row (supplyAt x t) t n) (refuse x) _ us bank-back
-      (λ p. rw (debited-row (x .ledger) m t n)))))
+      (λ p. rw (debited-by-row (x .ledger) m z (bank-in m t n f .0) t n (bank-in m t n f .1) (ltb-false (cellOf row t) n (p .0)))))))
 
 -- ---- 3, 4
 
-module _ (x : Exchange) (m k : ℕ) where
+order-market : (s : TicketState) → TicketBounds s → orderIn s .market < 4
+order-market Free b = omega arith
+order-market (Resting o) b = b .market-high
+order-market (Entered o) b = b .market-high
+
+module _ (x : Exchange) (b : Bounded x) (m k : ℕ) where
   place-back : (w : Refusal) → putPlaced x m k (refusedPlaced (rowOf (x .ledger) m) (ticketAt x k) w) ≡ refuse x w
-  place-back w = back x _ (x .supply) (x .residue) _ (x .markets) w (put-back (x .ledger) m) refl refl (set-getD (x .tickets) k freeTicket) refl
+  place-back w = back x _ (x .supply) (x .residue) _ (x .markets) w (rows-put-back (x .ledger) m) refl refl (set-getD (x .tickets) k freeTicket) refl
 
   pub order-on : (market side limit n : ℕ)
       → orderOf x k m market side limit n
@@ -155,10 +167,12 @@ module _ (x : Exchange) (m k : ℕ) where
       let row : Row = rowOf (x .ledger) m in
       let token : ℕ = offered (sideOf side) market in
       let us : List (Test Refusal) = orderRest (ticket x k) (cellOf row token) n in
-      rw (balance-row (x .ledger) m token)
+      rw (sym (rows-taken (x .ledger) m .cells token))
       (on-form x (orderForm k m market side limit n) us (orderDone x k m market side limit n) _ (λ f.
       sym (decide-carried (putPlaced x m k) (refusedPlaced row (ticketAt x k)) (orderedOn row (orderFrom m market side limit n)) (refuse x) (orderDone x k m market side limit n) us place-back
-      (λ p. rw (debited-row (x .ledger) m token n)))))
+      (λ p.
+      let i = order-in k m market side limit n f in
+      rw (debited-by-row (x .ledger) m (b .rows) (i .1) token n (offered-lt (sideOf side) market (i .2)) (ltb-false _ _ (p .1 .0)))))))
 
   pub cancel-on : cancelOf x k m ≡ byForm (formOf (cancelForm k m)) (refuse x) (putPlaced x m k (cancelOn (rowOf (x .ledger) m) (ticketAt x k) m))
   unfolding cancelOf cancelOn
@@ -169,7 +183,10 @@ module _ (x : Exchange) (m k : ℕ) where
       on-form x (cancelForm k m) us (cancelDone x k) _ (λ f.
       sym (decide-carried (putPlaced x m k) (refusedPlaced row (ticketAt x k)) (cancelledOn row o) (refuse x) (cancelDone x k) us place-back (λ p.
       let own : o .member ≡ m = eqb-true (o .member) m (not-false _ (or-false (isFree (ticket x k)) (not (eqb (o .member) m)) (p .0) .1)) in
-      sym (ap (λ (l : Ledger). putLedger x k l (o .offer .0)) (ap (λ (j : ℕ). credited (x .ledger) j (offered (o .side) (o .market)) (o .offer .0)) own ∙ credited-row (x .ledger) m (offered (o .side) (o .market)) (o .offer .0))))))
+      let i = cancel-in k m f in
+      let t : ℕ = offered (o .side) (o .market) in
+      let ht : t < 4 = offered-lt (o .side) (o .market) (order-market (ticket x k) (b .ticket-bounds k (i .0))) in
+      sym (ap (λ (l : Ledger). putLedger x k l (o .offer .0)) (ap (λ (j : ℕ). credited (x .ledger) j t (o .offer .0)) own ∙ credited-by-row (x .ledger) m (b .rows) (i .1) t (o .offer .0) ht)))))
     where
       putLedger : Exchange → ℕ → Ledger → ℕ → Outcome
       putLedger x k l n =
@@ -237,17 +254,7 @@ enter-on x k = on-form x (ticketForm k) (enterRest (ticket x k) (phase x (orderI
 
 module _ (x : Exchange) (n m at : ℕ) (z : Shaped (x .ledger)) where
   trade-back : (w : Refusal) → putTraded x n m (refusedTraded (marketAt (x .markets) n) (rowOf (x .ledger) m) (x .last) w) ≡ refuse x w
-  trade-back w = back x _ (x .supply) (x .residue) (x .tickets) _ w (put-back (x .ledger) m) refl refl refl (market-back (x .markets) n)
-
-  -- two changes of one row
-  row-twice : m < 16 → (t u a b : ℕ) → credited (debited (x .ledger) m t a) m u b ≡ withRow (x .ledger) m (creditedRow (debitedRow (rowOf (x .ledger) m) t a) u b)
-  row-twice h t u a b =
-      rw (
-        debited-row (x .ledger) m t a,
-        credited-row (withRow (x .ledger) m (debitedRow (rowOf (x .ledger) m) t a)) m u b,
-        row-same (x .ledger) m (debitedRow (rowOf (x .ledger) m) t a) z h,
-        row-again (x .ledger) m (debitedRow (rowOf (x .ledger) m) t a) (creditedRow (debitedRow (rowOf (x .ledger) m) t a) u b),
-      )
+  trade-back w = back x _ (x .supply) (x .residue) (x .tickets) _ w (rows-put-back (x .ledger) m) refl refl refl (market-back (x .markets) n)
 
   pub bid-on : (side base bound : ℕ)
       → bidOf x n m at side base bound
@@ -259,10 +266,12 @@ module _ (x : Exchange) (n m at : ℕ) (z : Shaped (x .ledger)) where
       let r : Round = roundIn (phase x n) in
       let q : ℕ = bidQuote r s at base in
       let us : List (Test Refusal) = bidRest (phase x n) (lastBlock x) at s base bound (cellOf row (wanted s n)) in
-      rw (balance-row (x .ledger) m (wanted s n))
+      rw (sym (rows-taken (x .ledger) m .cells (wanted s n)))
       (on-form x (bidForm n m side base) us (bidDone x n m at side base) _ (λ f.
       sym (decide-carried (putTraded x n m) (refusedTraded (marketAt (x .markets) n) row (x .last)) (tradedOn r row n at s base q) (refuse x) (bidDone x n m at side base) us trade-back
-      (λ p. sym (ap (traded x n at r s base q) (row-twice (omega (arith, ltb-false 15 m (f .0))) (wanted s n) (offered s n) (gives s base q) (takes s base q)))))))
+      (λ p.
+      let i = bid-in n m side base f in
+      sym (ap (traded x n at r s base q) (traded-by-row (x .ledger) m z (i .2) (wanted s n) (offered s n) (gives s base q) (takes s base q) (wanted-lt s n (i .1)) (offered-lt s n (i .1)) (ltb-false _ _ (p .1 .1 .1 .1 .1 .0))))))))
     where
       traded : Exchange → ℕ → ℕ → Round → Side → ℕ → ℕ → Ledger → Outcome
       traded x n at r s base q l =
@@ -282,7 +291,7 @@ module _ (x : Exchange) (k : ℕ) (s : TicketState) (e : ticketAt x k ≡ record
       → putClaimed x k n m (refusedClaimed (record { state = s }) (marketAt (x .markets) n) (rowOf (x .ledger) m) (residueAt x 0) (residueAt x n) w) ≡ refuse x w
   claim-back n m w =
       ap (λ (t : Ticket). putClaimed x k n m (refusedClaimed t (marketAt (x .markets) n) (rowOf (x .ledger) m) (residueAt x 0) (residueAt x n) w)) (sym e)
-      ∙ back x _ (x .supply) _ _ _ w (put-back (x .ledger) m) refl (residue-back n) (set-getD (x .tickets) k freeTicket) (market-back (x .markets) n)
+      ∙ back x _ (x .supply) _ _ _ w (rows-put-back (x .ledger) m) refl (residue-back n) (set-getD (x .tickets) k freeTicket) (market-back (x .markets) n)
 
 -- the state after a claim, by its ledger, residue and phase
 claimed : Exchange → ℕ → Order → ℕ → ℕ → Ledger → List Amount → Phase → Outcome
@@ -292,13 +301,13 @@ claimed x k o s got l residue p =
       exchange = setMarkets (setTickets (setResidue (setLedger x l) residue) (set (x .tickets) k (record { state = restingOr o (o .offer .0 - s) }))) (setMarket (x .markets) (o .market) (record { phase = p }));
     }
 
-module _ (x : Exchange) (k : ℕ) (o : Order) (pos : 0 < o .market) (s got : ℕ) (r : Round) where
+module _ (x : Exchange) (z : Shaped (x .ledger)) (k : ℕ) (o : Order) (ok : OrderBounds o) (s got : ℕ) (r : Round) where
   -- a last claim sweeps into two cells of the residue
   swept : (q b : ℕ) → set (set (x .residue) 0 (amount (residueAt x 0 .0 + q))) (o .market) (amount (getD (set (x .residue) 0 (amount (residueAt x 0 .0 + q))) (o .market) (amount 0) .0 + b))
       ≡ set (set (x .residue) 0 (amount (residueAt x 0 .0 + q))) (o .market) (amount (residueAt x (o .market) .0 + b))
   swept q b =
       ap (λ (c : Amount). set (set (x .residue) 0 (amount (residueAt x 0 .0 + q))) (o .market) (amount (c .0 + b)))
-      (getD-set-other (x .residue) 0 (o .market) (amount (residueAt x 0 .0 + q)) (amount 0) (λ z. omega (arith, pos, z)))
+      (getD-set-other (x .residue) 0 (o .market) (amount (residueAt x 0 .0 + q)) (amount 0) (λ e. omega (arith, ok .market-low, e)))
 
   paid-parts : accept s got (payingOrClosed (credit (withTicket x k (restingOr o (o .offer .0 - s))) (o .member) (wanted (o .side) (o .market)) got) (o .market) r)
       ≡ putClaimed x k (o .market) (o .member) (paidOn (rowOf (x .ledger) (o .member)) (residueAt x 0) (residueAt x (o .market)) o s got r)
@@ -307,7 +316,7 @@ module _ (x : Exchange) (k : ℕ) (o : Order) (pos : 0 < o .market) (s got : ℕ
     where
       row : credited (x .ledger) (o .member) (wanted (o .side) (o .market)) got
           ≡ withRow (x .ledger) (o .member) (creditedRow (rowOf (x .ledger) (o .member)) (wanted (o .side) (o .market)) got)
-      row = credited-row (x .ledger) (o .member) (wanted (o .side) (o .market)) got
+      row = credited-by-row (x .ledger) (o .member) z (ok .member) (wanted (o .side) (o .market)) got (wanted-lt (o .side) (o .market) (ok .market-high))
 
       go : (q : Bool)
           → accept s got (cond q (withPhase (toResidue (toResidue (credit (withTicket x k (restingOr o (o .offer .0 - s))) (o .member) (wanted (o .side) (o .market)) got) 0 (r .quote .0)) (o .market) (r .base .0)) (o .market) Closed) (withPhase (credit (withTicket x k (restingOr o (o .offer .0 - s))) (o .member) (wanted (o .side) (o .market)) got) (o .market) (Paying r)))
@@ -317,14 +326,14 @@ module _ (x : Exchange) (k : ℕ) (o : Order) (pos : 0 < o .market) (s got : ℕ
       go true = ap₂ (λ (l : Ledger) (c : List Amount). claimed x k o s got l c Closed) row (swept (r .quote .0) (r .base .0))
       go false = ap₂ (λ (l : Ledger) (c : List Amount). claimed x k o s got l c (Paying r)) row (sym (residue-back x k (ticket x k) refl (o .market)))
 
-claim-ticket : (x : Exchange) (k : ℕ) (s : TicketState) → ticketAt x k ≡ record { state = s } → TicketBounds s
+claim-ticket : (x : Exchange) → Shaped (x .ledger) → (k : ℕ) (s : TicketState) → ticketAt x k ≡ record { state = s } → TicketBounds s
     → decide (claimRest s (phase x (orderIn s .market))) (refuse x) (claimWith x k (orderIn s) (roundIn (phase x (orderIn s .market))))
     ≡ putClaimed x k (ticketMarket s) (ticketMember s)
     (claimOn (record { state = s }) (marketAt (x .markets) (ticketMarket s)) (rowOf (x .ledger) (ticketMember s)) (residueAt x 0) (residueAt x (ticketMarket s)) k)
 unfolding claimOn
-claim-ticket x k Free e b = sym (claim-back x k Free e 1 0 NoSuchOrder)
-claim-ticket x k (Resting o) e b = sym (claim-back x k (Resting o) e (o .market) (o .member) WrongTicketState)
-claim-ticket x k (Entered o) e b =
+claim-ticket x z k Free e b = sym (claim-back x k Free e 1 0 NoSuchOrder)
+claim-ticket x z k (Resting o) e b = sym (claim-back x k (Resting o) e (o .market) (o .member) WrongTicketState)
+claim-ticket x z k (Entered o) e b =
     let m : Market = marketAt (x .markets) (o .market) in
     let r : Round = roundIn (m .phase) in
     let s : TicketState = Entered o in
@@ -332,7 +341,7 @@ claim-ticket x k (Entered o) e b =
     let next : Round = claimedRound r k (o .side) (o .offer .0 - shareIn r o) (gotIn r o) in
     sym (decide-carried (putClaimed x k (o .market) (o .member)) (refusedClaimed (record { state = s }) m row (residueAt x 0) (residueAt x (o .market)))
     (paidOn row (residueAt x 0) (residueAt x (o .market)) o (shareIn r o) (gotIn r o) next) (refuse x) (claimWith x k o r)
-    (claimRest s (m .phase)) (claim-back x k s e (o .market) (o .member)) (λ p. sym (paid-parts x k o (b .market-low) (shareIn r o) (gotIn r o) next)))
+    (claimRest s (m .phase)) (claim-back x k s e (o .market) (o .member)) (λ p. sym (paid-parts x z k o b (shareIn r o) (gotIn r o) next)))
 
 pub claim-on : (x : Exchange) → Bounded x → (k : ℕ)
     → claimOf x k
@@ -342,4 +351,4 @@ pub claim-on : (x : Exchange) → Bounded x → (k : ℕ)
 unfolding claimOf
 claim-on x b k =
     on-form x (ticketForm k) (claimRest (ticket x k) (phase x (orderIn (ticket x k) .market))) (claimDone x k) _ (λ f.
-    claim-ticket x k (ticket x k) refl (b .ticket-bounds k (omega (arith, ltb-false 63 k (f .0)))))
+    claim-ticket x (b .rows) k (ticket x k) refl (b .ticket-bounds k (omega (arith, ltb-false 63 k (f .0)))))

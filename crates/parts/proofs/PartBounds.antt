@@ -7,7 +7,7 @@ use Rattle.units.proofs.Sums.{only-same}
 use Rattle.pricing.specs.declared.Side.{Side}
 use Rattle.pricing.specs.declared.Side.the-variants.{Buy, Sell}
 use Rattle.ledger.specs.Balances.{cellOf, rowOf}
-use Rattle.ledger.proofs.Laws.{balance-row, row-shaped}
+use Rattle.ledger.proofs.Laws.{rows-taken}
 use Rattle.model.specs.declared.state.Order.{Order}
 use Rattle.model.specs.declared.state.TicketState.{TicketState}
 use Rattle.model.specs.declared.state.TicketState.the-variants.{Free, Resting, Entered}
@@ -44,14 +44,14 @@ module _ (x : Exchange) (b : Bounded x) where
   beside m n hm pos h side =
       omega (
         arith,
-        balance-row (x .ledger) m (offered side n),
+        rows-taken (x .ledger) m .cells (offered side n),
         b .within m 0 n (offered side n) hm (omega arith) pos h (offered-lt side n h),
         b .small (offered side n) (offered-lt side n h),
         held-le (roundIn (phase x n)) side n pos,
       )
 
   pub bank-bounds : (m t : ℕ) → m < 16 → t < 4 → BankBounds (rowOf (x .ledger) m) (supplyAt x t) t
-  bank-bounds m t hm ht = (ht, omega (arith, balance-row (x .ledger) m t, b .within m 0 1 t hm (omega arith) (omega arith) (omega arith) ht))
+  bank-bounds m t hm ht = (ht, omega (arith, rows-taken (x .ledger) m .cells t, b .within m 0 1 t hm (omega arith) (omega arith) (omega arith) ht))
 
   -- a resting ticket's offer, and a balance and a round's holding of its token
   rest-beside : (k : ℕ) → k < 64 → (o : Order) → ticket x k ≡ Resting o → (m : ℕ) → m < 16
@@ -65,7 +65,7 @@ module _ (x : Exchange) (b : Bounded x) where
       (b .within m k (o .market) t hm hk (ok .market-low) (ok .market-high) ht) in
       omega (
         arith,
-        balance-row (x .ledger) m t,
+        rows-taken (x .ledger) m .cells t,
         w,
         only-same t (o .offer .0),
         b .small t ht,
@@ -98,7 +98,7 @@ module _ (x : Exchange) (b : Bounded x) where
         auction = p .1;
         started = omega (arith, b .started n pos h, ap (λ (q : Phase). roundIn q .start .0) e);
         market = h;
-        cells = row-shaped (x .ledger) m (b .rows) hm;
+        cells = rows-taken (x .ledger) m .shaped (b .rows) hm;
         beside = λ side. omega (arith, beside m n hm pos h side, ap (λ (q : Phase). heldIn (roundIn q) side) e);
       }
 

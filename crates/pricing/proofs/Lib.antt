@@ -3,3 +3,4 @@ pub mod Trades
 pub mod Shares
 pub mod Limits
 pub mod Examples
+pub mod LawExamples

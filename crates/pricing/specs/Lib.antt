@@ -1,2 +1,4 @@
 pub mod Prices
 pub mod Laws
+pub mod Examples
+pub mod LawExamples

@@ -34,7 +34,7 @@ exact : (x : Exchange) (n : ℕ) (l : List ℕ) → lineRequestOf x (record { nu
 exact x n l = line-fits x (record { number = n; room = length (lineText x n l); line = l }) (le-refl (length (lineText x n l)))
 
 -- the answers to lines, and the state that they leave
-record Comes (x : Exchange) (n : ℕ) (ls : List (List ℕ)) (text : List ℕ) (y : Exchange) : Type 0 where
+pub record Comes (x : Exchange) (n : ℕ) (ls : List (List ℕ)) (text : List ℕ) (y : Exchange) : Type 0 where
   pub text-is : text ≡ answerText x n (take (left n) ls)
   pub state-is : y ≡ stateAfterLines lineRequestOf x (numbered x n (take (left n) ls))
 
@@ -84,7 +84,7 @@ comes-none x n =
 
 -- ---- the input's end
 
-one-line : (b : ℕ) (p : List ℕ) → onAll (b ∷ p) [] ≡ (b ∷ p) ∷ []
+pub one-line : (b : ℕ) (p : List ℕ) → onAll (b ∷ p) [] ≡ (b ∷ p) ∷ []
 one-line b [] = refl
 one-line b (c ∷ p) = ap (onFirst b) (one-line c p)
 
@@ -114,13 +114,13 @@ first-byte : (s : Stream) (b : ℕ) (bs : List ℕ) → written s (b ∷ bs) ≡
 first-byte s b bs = append-assoc (byteText s b) (textOf (nextByte s b) bs) (endText (after (nextByte s b) bs))
 
 -- the lines of an input that begins with byte 10, or with another
-lines-end : (p : List ℕ) (b : ℕ) (bs : List ℕ) → eqb b 10 ≡ true → p ∷ linesOf bs ≡ onAll p (linesOf (b ∷ bs))
+pub lines-end : (p : List ℕ) (b : ℕ) (bs : List ℕ) → eqb b 10 ≡ true → p ∷ linesOf bs ≡ onAll p (linesOf (b ∷ bs))
 lines-end p b bs e = rw e (sym (all-cons p [] (linesOf bs) ∙ ap (λ (l : List ℕ). l ∷ linesOf bs) (append-nil p)))
 
-lines-more : (p : List ℕ) (b : ℕ) (bs : List ℕ) → eqb b 10 ≡ false → onAll (p ++ (b ∷ [])) (linesOf bs) ≡ onAll p (linesOf (b ∷ bs))
+pub lines-more : (p : List ℕ) (b : ℕ) (bs : List ℕ) → eqb b 10 ≡ false → onAll (p ++ (b ∷ [])) (linesOf bs) ≡ onAll p (linesOf (b ∷ bs))
 lines-more p b bs e = rw e (all-snoc p b (linesOf bs))
 
-whole : (input p : List ℕ) (x : Exchange) (n : ℕ)
+pub whole : (input p : List ℕ) (x : Exchange) (n : ℕ)
     → Comes x n (onAll p (linesOf input)) (written (begun x n p) input) (ended (after (begun x n p) input) .exchange)
 whole [] p x n = last x n p
 whole (b ∷ bs) p x n =

@@ -1,21 +1,26 @@
 -- Days, computed.
 use mathlib.Core.Path.{_≡_, refl}
-use mathlib.Core.List.{List, map, _++_}
+use mathlib.Core.List.{List, map}
+use mathlib.Core.Option.{Option}
 use Prim.Native.Nat.{ℕ}
-use Rattle.units.specs.Decimal.{digits}
-use Rattle.model.specs.Answers.{answerLine}
-use Rattle.model.proofs.Computing.{call-computes}
-use Rattle.fields.specs.Grammar.{numberOf, lineNumbers}
-use Rattle.lines.specs.CallLines.{ofKind, readingOf}
-use Rattle.replay.specs.Lines.{lineOutcome, lineText}
-use Rattle.lines.specs.AnswerText.{header}
+use Rattle.fields.specs.Examples.{longLines}
 use Rattle.replay.specs.Days.{dayOf}
-use Rattle.replay.specs.Examples.{paperInput, paperOutput, smallDays}
+use Rattle.replay.specs.Examples.{paperInput, paperOutput, fieldsInput, fieldsOutput, smallDays, longDays, longTexts}
+use Rattle.replay.proofs.Computing.{day-computes}
 
 pub paper-day : dayOf paperInput ≡ paperOutput
-unfolding paperInput paperOutput dayOf lineOutcome lineText readingOf ofKind lineNumbers numberOf answerLine digits call-computes
+unfolding paperInput paperOutput day-computes
 paper-day = refl
 
-pub small-days : map (λ (e : List ℕ × List ℕ). dayOf (e .0)) smallDays ≡ map (λ (e : List ℕ × List ℕ). header ++ e .1) smallDays
-unfolding smallDays dayOf lineOutcome lineText readingOf ofKind lineNumbers numberOf answerLine digits call-computes
+pub fields-day : dayOf fieldsInput ≡ fieldsOutput
+unfolding fieldsInput fieldsOutput day-computes
+fields-day = refl
+
+pub small-days : map (λ (e : List ℕ × List ℕ). dayOf (e .0)) smallDays ≡ map (λ (e : List ℕ × List ℕ). e .1) smallDays
+unfolding smallDays day-computes
 small-days = refl
+
+-- lines of 79, 80, 81, 82 and 201 bytes
+pub long-days : map (λ (e : ℕ × List ℕ × Option (List ℕ)). map dayOf (longDays (e .1))) longLines ≡ map (λ (e : ℕ × List ℕ × Option (List ℕ)). longTexts) longLines
+unfolding longLines longTexts day-computes
+long-days = refl

@@ -1,7 +1,7 @@
 -- What stands while bytes are fed: the part of the input that was taken, and the buffer that it wrote.
 use mathlib.Core.Path.{_≡_, refl, sym, ap, _∙_, subst}
 use mathlib.Core.List.{List, [], _∷_, _++_, append-assoc}
-use Prim.Native.Nat.{ℕ, zero, suc, _+_, _≤_, _<_}
+use Prim.Native.Nat.{ℕ, zero, suc, _+_, _-_, _≤_, _<_}
 use native.Mathlib.Omega.{arith}
 use native.Mathlib.Nat.{add-assoc, ne-of-gt, le-refl, not-le-of-lt, not-suc-le-zero, le-of-suc-le-suc, lt-of-lt-of-le}
 use lib.Dec.{eqb}
@@ -154,20 +154,26 @@ module _ (d : Day) (input : List ℕ) (lines-left : d .done < lastLine) (places 
       (put-nothing out) in
       record {
         advanced = advanced d input out out r (streamOf d) refl f (omega (arith, all));
-        stops = λ none some. absurd (ne-of-gt some (sym all ∙ none));
+        no-end = λ none. all;
+        answers = λ inside fits. omega (arith, e, all, inside);
+        waits = λ inside short. omega (arith, e, all, inside);
+        over = λ last. all;
         goes-on = λ some room. omega (arith, all, some);
       }
 
   -- its answer does not fit
-  pub line-waits : (out out′ : List ℕ) → out′ ≡ out → length out < length (lineText (d .exchange) (d .done + 1) full) → length (lineText (d .exchange) (d .done + 1) full) ≤ longestAnswer
+  pub line-waits : (out out′ : List ℕ) → length (lineIn input) < length input → out′ ≡ out → length out < length (lineText (d .exchange) (d .done + 1) full) → length (lineText (d .exchange) (d .done + 1) full) ≤ longestAnswer
       → FedBy d input out out′ (record { day = d; used = 0; wrote = 0 })
-  line-waits out out′ e short small =
+  line-waits out out′ inside e short small =
       record {
         advanced =
             advanced d input out out′ (record { day = d; used = 0; wrote = 0 }) (streamOf d) refl
             (subst (SoFar (streamOf d) input out 0 (streamOf d) 0) (sym e) (so-far-start (streamOf d) input out))
             (omega arith);
-        stops = λ none some. omega (arith, short, ap length full-text);
+        no-end = λ none. absurd (ne-of-gt inside (sym none));
+        answers = λ _ fits. absurd (not-le-of-lt short (subst (λ (t : List ℕ). length t ≤ length out) full-text fits));
+        waits = λ _ _. refl;
+        over = λ last. absurd (not-le-of-lt lines-left last);
         goes-on = λ some room. absurd (not-le-of-lt (lt-of-lt-of-le short small) room);
       }
 
@@ -189,7 +195,10 @@ module _ (d : Day) (input : List ℕ) (lines-left : d .done < lastLine) (places 
       put in
       record {
         advanced = advanced d input out out′ r (streamOf d) refl f (omega (arith, inside));
-        stops = λ none some. absurd (ne-of-gt (omega arith) none);
+        no-end = λ none. omega (arith, e, inside, none);
+        answers = λ _ _. omega (arith, e);
+        waits = λ _ short. omega (arith, count, fits, short, ap length full-text);
+        over = λ last. absurd (not-le-of-lt lines-left last);
         goes-on = λ some room. omega arith;
       }
 
@@ -250,8 +259,36 @@ untouched d input out out′ r a e =
     let none : textOf (streamOf d) (take (r .used) input) ≡ [] = ap (λ (k : ℕ). textOf (streamOf d) (take k input)) e in
     a .text ∙ ap (λ (t : List ℕ). t ++ drop (r .wrote) out) none ∙ ap (λ (k : ℕ). drop k out) (a .count ∙ ap length none)
 
-pub fed-some : (d : Day) (input out out′ : List ℕ) (r : Fed) → Advanced d input out out′ r → 0 < r .used → FedBy d input out out′ r
-fed-some d input out out′ r a h = record { advanced = a; stops = λ none some. absurd (ne-of-gt h none); goes-on = λ some room. h }
+-- bytes that hold the line that ends first write its answer at least
+first-written : (s : Stream) (input : List ℕ) (n : ℕ) → length (lineIn input) < n → n ≤ length input
+    → length (textOf s (firstLine input)) ≤ length (textOf s (take n input))
+first-written s input n whole inside =
+    let l : ℕ = length (lineIn input) in
+    let more : List ℕ = take (n - (l + 1)) (drop (l + 1) input) in
+    let split : n ≡ l + 1 + (n - (l + 1)) = omega (arith, whole) in
+    let parts : take n input ≡ firstLine input ++ more =
+    ap (λ (k : ℕ). take k input) split
+    ∙ take-add (l + 1) (n - (l + 1)) input
+    ∙ ap (λ (p : List ℕ). p ++ more) (line-ten input (omega (arith, whole, inside))) in
+    omega (
+      arith,
+      ap (λ (p : List ℕ). length (textOf s p)) parts,
+      ap length (text-append s (firstLine input) more),
+      length-append (textOf s (firstLine input)) (textOf (after s (firstLine input)) more),
+    )
+
+-- whole lines were taken
+pub fed-whole : (d : Day) (input out out′ : List ℕ) (r : Fed) → Advanced d input out out′ r → d .done < lastLine → 0 < r .used → length (lineIn input) < r .used
+    → FedBy d input out out′ r
+fed-whole d input out out′ r a lines-left some whole =
+    record {
+      advanced = a;
+      no-end = λ none. omega (arith, whole, none, a .within);
+      answers = λ _ _. whole;
+      waits = λ _ short. omega (arith, short, first-written (streamOf d) input (r .used) whole (a .within), a .count, a .fits);
+      over = λ last. absurd (not-le-of-lt lines-left last);
+      goes-on = λ _ _. some;
+    }
 
 -- with the same buffer, and with the same bytes
 pub fed-same-out : (d : Day) (input out out₁ out′ : List ℕ) (r : Fed) → out₁ ≡ out → FedBy d input out₁ out′ r → FedBy d input out out′ r
@@ -274,7 +311,10 @@ fed-over d input out h =
             text = sym (ap (λ (t : List ℕ). t ++ out) none);
             state = sym (over-after (streamOf d) h (take (length input) input));
           };
-      stops = λ none some. absurd (ne-of-gt some none);
+      no-end = λ _. refl;
+      answers = λ inside _. inside;
+      waits = λ _ short. absurd (not-suc-le-zero (subst (λ (t : List ℕ). length out < length t) (over-text (streamOf d) h (firstLine input)) short));
+      over = λ _. refl;
       goes-on = λ some room. some;
     }
 
@@ -284,7 +324,10 @@ none-begun d out e =
     let none : lastBytes (streamOf d .line) ≡ [] = ap (λ (k : ℕ). lastBytes (take k (d .line))) e in
     record {
       advanced = record { within = omega arith; count = refl; fits = omega arith; text = refl; state = refl };
-      stops = λ _ some. absurd (ne-of-gt some (ap length none));
+      no-end = λ _. sym (ap length none);
+      answers = λ inside _. omega (arith, inside, ap length none);
+      waits = λ _ _. refl;
+      over = λ _. sym (ap length none);
       goes-on = λ some _. absurd (ne-of-gt some (ap length none));
     }
 

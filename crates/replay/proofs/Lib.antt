@@ -1,5 +1,11 @@
 pub mod LineRun
+pub mod LineCodes
 pub mod StreamLaws
 pub mod FeedLaws
 pub mod DayText
+pub mod LastLine
+pub mod Computing
 pub mod Examples
+pub mod StreamExamples
+pub mod LineExamples
+pub mod FeedExamples

@@ -1,4 +1,9 @@
 pub mod Lines
+pub mod LineCodes
 pub mod Days
 pub mod Pieces
+pub mod LastLine
 pub mod Examples
+pub mod StreamExamples
+pub mod LineExamples
+pub mod FeedExamples

@@ -104,11 +104,14 @@ pub record Advanced (d : Day) (input out out′ : List ℕ) (r : Fed) : Type 0 w
 abbrev pub firstLine : List ℕ → List ℕ
 firstLine input = lineIn input ++ (10 ∷ [])
 
--- how much of the input is taken is free but for this: nothing is taken only where there is nothing, or where the answer to the line that ends first
--- does not fit, as 21 has it; and where any answer line fits, something is taken
+-- how much of the input is taken is free but for this: all of it where no line ends in it; where one does, at least the line that ends first if its
+-- answer fits, and nothing if it does not, as 21 has it; all of it after the last line; and something where any answer line fits
 pub record FedBy (d : Day) (input out out′ : List ℕ) (r : Fed) : Type 0 where
   pub advanced : Advanced d input out out′ r
-  pub stops : r .used ≡ 0 → 0 < length input → length out < length (textOf (streamOf d) (firstLine input))
+  pub no-end : length (lineIn input) ≡ length input → r .used ≡ length input
+  pub answers : length (lineIn input) < length input → length (textOf (streamOf d) (firstLine input)) ≤ length out → length (lineIn input) < r .used
+  pub waits : length (lineIn input) < length input → length out < length (textOf (streamOf d) (firstLine input)) → r .used ≡ 0
+  pub over : lastLine ≤ d .done → r .used ≡ length input
   pub goes-on : 0 < length input → longestAnswer ≤ length out → 0 < r .used
 
 -- ---- a whole day fed

@@ -19,7 +19,7 @@ use replay::day::Fed;
 use replay::day::LAST_LINE;
 
 // Takes bytes of the input and writes the answers of the lines that end in them at the start of out: what is answered is that part of the
-// whole day's text. It takes nothing only where there is nothing, or where the next answer line does not fit (21).
+// whole day's text. Where no line ends in the input it takes it all; else at least the line that ends first, or nothing where its answer does not fit (21).
 pub fn feed(d: Day, input: &[u8], out: &mut [u8]) -> Fed
     requires { ⌜ Reachable (d .exchange) ⌝ }
     ensures { λ r. ⌜ FedBy d (now (input .entry)) (now (out .entry)) (now (out .exit)) r ⌝ }

@@ -1,21 +1,35 @@
--- The definitions compute: the least member, the number of members and their sum, for four sets; and two sets' members.
+-- The cases of specs/Examples.antt, computed.
 use mathlib.Core.Path.{_≡_, refl}
 use mathlib.Core.List.{[], _∷_, map}
-use Prim.Native.Nat.{ℕ, _-_, _^_}
 use Rattle.units.specs.Sums.{sumTo}
-use Rattle.ticket_set.specs.declared.Next.{Next}
-use Rattle.ticket_set.specs.declared.Next.the-variants.{At, Nothing}
-use Rattle.ticket_set.specs.TicketSet.{bit, inserted, removed, countOf, sumOf, nextFrom, nextOf, membersFrom, membersOf}
+use Rattle.units.specs.Worked.{given, byHand}
+use Rattle.ticket_set.specs.TicketSet.{bit, inserted, removed, countOf, nextFrom, nextOf, membersFrom, membersOf}
+use Rattle.ticket_set.specs.Examples.{bitCases, hasCases, changeCases, sizeCases, nextCases, memberCases, workedMembers, someMembers}
 
-abbrev pub readings : ℕ → Next × ℕ × ℕ
-readings s = (nextOf s, countOf s, sumOf s (λ k. k))
+pub bits-hold : given bitCases ≡ byHand bitCases
+unfolding bitCases bit
+bits-hold = refl
 
-pub member-examples : map membersOf (0 ∷ inserted (2 ^ 63) 40 ∷ removed 11 0 ∷ []) ≡ [] ∷ (40 ∷ 63 ∷ []) ∷ (1 ∷ 3 ∷ []) ∷ []
-unfolding bit inserted removed membersFrom membersOf
-member-examples = refl
+pub has-hold : given hasCases ≡ byHand hasCases
+unfolding hasCases bit
+has-hold = refl
 
-pub examples
-    : map readings (0 ∷ (inserted (2 ^ 63) 40) ∷ (removed 11 0) ∷ (2 ^ 64 - 1) ∷ [])
-    ≡ (Nothing, 0, 0) ∷ (At 40, 2, 103) ∷ (At 1, 2, 4) ∷ (At 0, 64, 2016) ∷ []
-unfolding bit inserted removed countOf sumOf nextFrom nextOf sumTo
-examples = refl
+pub changes-hold : given changeCases ≡ byHand changeCases
+unfolding changeCases bit inserted removed
+changes-hold = refl
+
+pub sizes-hold : given sizeCases ≡ byHand sizeCases
+unfolding sizeCases bit countOf sumTo
+sizes-hold = refl
+
+pub nexts-hold : given nextCases ≡ byHand nextCases
+unfolding nextCases bit nextFrom nextOf
+nexts-hold = refl
+
+pub members-hold : map workedMembers memberCases ≡ memberCases
+unfolding memberCases bit membersFrom membersOf
+members-hold = refl
+
+pub some-members-hold : map someMembers (0 ∷ 1 ∷ 2 ∷ []) ≡ [] ∷ (1 ∷ []) ∷ (1 ∷ 2 ∷ []) ∷ []
+unfolding bit membersFrom
+some-members-hold = refl

@@ -1,15 +1,14 @@
--- The count of a set, and sums over its members: what the crates above go by.
+-- The count of a set: what the crates above go by.
 use mathlib.Core.Path.{_≡_, refl, sym, ap, _∙_}
-use mathlib.Core.Logic.{⊎-elim}
-use Prim.Native.Nat.{ℕ, zero, suc, _+_, _*_, _/_, _%_, _^_, _≤_, _<_}
+use Prim.Native.Nat.{ℕ, zero, suc, _+_, _/_, _%_, _^_, _≤_, _<_}
 use native.Mathlib.Nat.{div-eq-of-lt, div-one, pow-suc, div-div-eq-div-mul, zero-div, lt-of-lt-of-le, pow-le-pow-right, zero-lt-suc}
 use native.Mathlib.Omega.{arith}
 use lib.Arith.{bin-ind}
 use lib.Count.{ones, ones-step}
 use Rattle.units.specs.Sums.{sumTo}
-use Rattle.units.proofs.Sums.{sum-ext, sum-at, sum-at-most, sum-zero, zero-terms}
-use Rattle.ticket_set.specs.TicketSet.{bit, inserted, removed, countOf, sumOf}
-use Rattle.ticket_set.proofs.Bits.{bit-lt, bit-cases, bit-inserted-same, bit-inserted-other, bit-removed-same, bit-removed-other}
+use Rattle.units.proofs.Sums.{sum-at, sum-at-most, sum-zero, zero-terms}
+use Rattle.ticket_set.specs.TicketSet.{bit, removed, countOf}
+use Rattle.ticket_set.proofs.Bits.{bit-lt, bit-removed-same, bit-removed-other}
 
 -- ---- the machine's count is the sum of the bits
 
@@ -29,11 +28,6 @@ ones-none : (m : ℕ) → ones m ≡ 0 → m ≡ 0
 ones-none = bin-ind (λ (n : ℕ). ones n ≡ 0 → n ≡ 0) (λ _. refl) (λ n ih e. let z : n / 2 ≡ 0 = ih (omega (arith, ones-step n)) in omega (arith, ones-step n))
 
 -- ---- the count
-
-pub count-inserted : (m i : ℕ) → i < 64 → bit m i ≡ 0 → countOf (inserted m i) ≡ countOf m + 1
-unfolding countOf
-count-inserted m i l e =
-    omega (arith, sum-at 64 i (bit m) (bit (inserted m i)) l (λ j _ n. bit-inserted-other m i j n), bit-inserted-same m i)
 
 pub count-removed : (m i : ℕ) → i < 64 → bit m i ≡ 1 → countOf (removed m i) + 1 ≡ countOf m
 unfolding countOf
@@ -67,38 +61,3 @@ none-member m h z = count-none m h (sum-zero 64 (bit m) z)
 pub none-counted : (m : ℕ) → countOf m ≡ 0 → (i : ℕ) → i < 64 → bit m i ≡ 0
 unfolding countOf
 none-counted m e = zero-terms 64 (bit m) e
-
--- ---- the sum over the members
-
--- two sets that agree but at i: what i adds to the one sum stands against what it adds to the other
-sum-differ : (m n i : ℕ) (f : ℕ → ℕ) → i < 64 → ((j : ℕ) → (j ≡ i → ⊥) → bit n j ≡ bit m j) → sumOf n f + bit m i * f i ≡ sumOf m f + bit n i * f i
-unfolding sumOf
-sum-differ m n i f l h = sum-at 64 i _ _ l (λ j _ d. ap (λ (x : ℕ). x * f j) (h j d))
-
-pub sum-inserted : (m i : ℕ) (f : ℕ → ℕ) → i < 64 → bit m i ≡ 0 → sumOf (inserted m i) f ≡ sumOf m f + f i
-sum-inserted m i f l e = omega (arith, rw (e, bit-inserted-same m i) at (sum-differ m (inserted m i) i f l (bit-inserted-other m i)))
-
-pub sum-removed : (m i : ℕ) (f : ℕ → ℕ) → i < 64 → bit m i ≡ 1 → sumOf (removed m i) f + f i ≡ sumOf m f
-sum-removed m i f l e = omega (arith, rw (e, bit-removed-same m i) at (sum-differ m (removed m i) i f l (bit-removed-other m i)))
-
--- f may change where no ticket is a member
-pub sum-agree : (m : ℕ) (f g : ℕ → ℕ) → ((j : ℕ) → j < 64 → bit m j ≡ 1 → f j ≡ g j) → sumOf m f ≡ sumOf m g
-unfolding sumOf
-sum-agree m f g h =
-    sum-ext 64 _ _ (λ j l.
-    ⊎-elim (λ (z : bit m j ≡ 0). rw (z) (omega arith)) (λ (o : bit m j ≡ 1). ap (λ (x : ℕ). bit m j * x) (h j l o)) (bit-cases m j))
-
-pub sum-none : (f : ℕ → ℕ) → sumOf 0 f ≡ 0
-unfolding sumOf
-sum-none f = sum-zero 64 _ (λ j l. rw (bit-of-empty j) (omega arith))
-
--- ---- a ticket joins or leaves while its own number changes: f before, g after, the same but at i
-
-pub sum-joined : (m i : ℕ) (f g : ℕ → ℕ) → i < 64 → bit m i ≡ 0 → ((j : ℕ) → (j ≡ i → ⊥) → f j ≡ g j) → sumOf (inserted m i) g ≡ sumOf m f + g i
-sum-joined m i f g l e h =
-    sum-inserted m i g l e ∙ ap (λ (x : ℕ). x + g i) (sym (sum-agree m f g (λ j k o. h j (λ q. let z : bit m i ≡ 1 = rw q at o in omega arith))))
-
-pub sum-left : (m i : ℕ) (f g : ℕ → ℕ) → i < 64 → bit m i ≡ 1 → ((j : ℕ) → (j ≡ i → ⊥) → f j ≡ g j) → sumOf (removed m i) g + f i ≡ sumOf m f
-sum-left m i f g l e h =
-    ap (λ (x : ℕ). x + f i) (sym (sum-agree (removed m i) f g (λ j k o. h j (λ q. let z : bit (removed m i) i ≡ 1 = rw q at o in omega (arith, bit-removed-same m i)))))
-    ∙ sum-removed m i f l e

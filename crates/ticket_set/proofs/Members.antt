@@ -4,7 +4,6 @@ use mathlib.Core.List.{[], _∷_}
 use mathlib.Core.Logic.{⊎-elim}
 use Prim.Native.Nat.{ℕ, zero, suc, _≤_}
 use native.Mathlib.Omega.{arith}
-use lib.ListN.{length}
 use Rattle.ticket_set.specs.declared.Next.the-variants.{At, Nothing}
 use Rattle.ticket_set.specs.TicketSet.{bit, removed, nextFrom, nextOf, membersFrom, membersOf}
 use Rattle.ticket_set.proofs.Bits.{bit-cases, bit-removed-same, bit-removed-other}
@@ -69,18 +68,3 @@ next-none (suc d) i m e =
 pub members-nothing : (m : ℕ) → nextOf m ≡ Nothing → membersOf m ≡ []
 unfolding nextOf membersOf
 members-nothing m e = next-none 64 0 m e
-
--- no more than the tickets looked at
-from-length : (d i m : ℕ) → length (membersFrom d i m) ≤ d
-unfolding membersFrom
-from-length zero i m = omega arith
-from-length (suc d) i m =
-    let rest = from-length d (suc i) m in
-    ⊎-elim
-    (λ (z : bit m i ≡ 0). rw (members-there d i m z) (omega (arith, rest)))
-    (λ (o : bit m i ≡ 1). rw (members-here d i m o) (omega (arith, rest)))
-    (bit-cases m i)
-
-pub members-length : (m : ℕ) → length (membersOf m) ≤ 64
-unfolding membersOf
-members-length m = from-length 64 0 m

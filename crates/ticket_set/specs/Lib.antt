@@ -1,1 +1,2 @@
 pub mod TicketSet
+pub mod Examples

@@ -22,12 +22,9 @@ inserted s k = s + (1 - bit s k) * 2 ^ k
 unfoldable pub removed : ℕ → ℕ → ℕ
 removed s k = s - bit s k * 2 ^ k
 
--- the number of members, and the sum of f over the members
+-- the number of members
 unfoldable pub countOf : ℕ → ℕ
 countOf s = sumTo 64 (bit s)
-
-unfoldable pub sumOf : ℕ → (ℕ → ℕ) → ℕ
-sumOf s f = sumTo 64 (λ k. bit s k * f k)
 
 -- the first member among the n tickets from k on
 unfoldable pub nextFrom : ℕ → ℕ → ℕ → Next

@@ -3,3 +3,4 @@ pub mod Sums
 pub mod Decide
 pub mod Cases
 pub mod Counts
+pub mod Examples

@@ -4,3 +4,5 @@ pub mod Rounding
 pub mod Sums
 pub mod Decide
 pub mod Decimal
+pub mod Worked
+pub mod Examples

@@ -4,7 +4,7 @@ use mathlib.Core.Bool.{false}
 use mathlib.Core.List.{List, [], _∷_, _++_, append-assoc, append-nil}
 use Prim.Native.Nat.{ℕ, zero, suc, _+_, _-_, _≤_, _<_}
 use native.Mathlib.Omega.{arith}
-use native.Mathlib.Nat.{not-le-of-lt, not-suc-le-zero, pos-of-ne-zero}
+use native.Mathlib.Nat.{not-suc-le-zero}
 use lib.Dec.{eqb}
 use lib.ListN.{length, take, drop, length-append, length-take, length-drop, take-append-drop, drop-of-length-le}
 use lib.Seq.{take-add, take-all}
@@ -14,12 +14,13 @@ use Rattle.decimal.proofs.Put.{put-fits, put-part, part-all, Run, run-more}
 use Rattle.units.proofs.Cases.{by-test, by-order}
 use Rattle.model.specs.Run.{Reachable, at-first}
 use Rattle.lines.specs.AnswerText.{header}
+use Rattle.lines.specs.CallLines.{lineIn}
 use Rattle.lines.specs.Kept.{keptBytes}
 use Rattle.replay.specs.declared.day.Day.{Day}
 use Rattle.replay.specs.declared.day.Fed.{Fed}
 use Rattle.replay.specs.Days.{dayOf, lastLine}
 use Rattle.replay.specs.Pieces.{Stream, start, nextByte, byteText, after, textOf, lastBytes, endText, streamOf, Advanced, firstLine, FedBy}
-use Rattle.replay.proofs.StreamLaws.{text-append, over-text, next-piece, after-reachable}
+use Rattle.replay.proofs.StreamLaws.{text-append, line-within, over-text, next-piece, after-reachable}
 use Rattle.replay.proofs.DayText.{any-cutting}
 use Rattle.replay.proofs.FeedLaws.{some-begun}
 
@@ -117,7 +118,10 @@ last-line [] h = absurd (not-suc-le-zero h)
 last-line (b ∷ l) h = refl
 
 pub takes-some : (d : Day) (bs out out′ : List ℕ) (r : Fed) → FedBy d bs out out′ r → 0 < length bs → length (textOf (streamOf d) (firstLine bs)) ≤ length out → 0 < r .used
-takes-some d bs out out′ r f h fits = pos-of-ne-zero (λ e. not-le-of-lt (f .stops e h) fits)
+takes-some d bs out out′ r f h fits =
+    by-order (length (lineIn bs)) (length bs)
+    (λ inside. omega (arith, f .answers inside fits))
+    (λ whole. omega (arith, f .no-end (omega (arith, whole, line-within bs)), h))
 
 -- ---- the last line is finished
 

@@ -4,7 +4,7 @@ use mathlib.Core.Path.{sym, _∙_}
 use native.Mathlib.Omega.{arith}
 use Rattle.model.specs.Sides.{offered}
 use Rattle.model.proofs.Frames.{offered-lt}
-use Rattle.ledger.proofs.Laws.{credit-row-done}
+use Rattle.ledger.proofs.Laws.{credit-row-calls}
 use borrow.Author.Needs.{needs}
 use Rattle.accounts.proofs.cancel.Statement.{statement}
 use Rattle.accounts.proofs.cancel.Tie as tie
@@ -56,7 +56,7 @@ returns-4 c = let a = c .before .before .before .before .before .before .before 
     rw (
       c .before .credit-row .ensures,
       c .before .before .offered-token .ensures,
-      credit-row-done (a .row) (offered (o .side) (o .market)) (o .offer .0) (omega (arith, offered-lt (o .side) (o .market) (pre .0))) (pre .1),
+      credit-row-calls (a .row) (offered (o .side) (o .market)) (o .offer .0) .done (omega (arith, offered-lt (o .side) (o .market) (pre .0))) (pre .1),
     )
     (sym (cancel-resting-own (a .row) (a .ticket) (a .member) o e (c .before .before .before .before .if1 .left)))
 

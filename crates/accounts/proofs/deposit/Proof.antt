@@ -4,7 +4,7 @@ use mathlib.Core.Path.{sym, _∙_}
 use native.Mathlib.Omega.{arith}
 use borrow.Author.Tests.{ltb-false}
 use Rattle.units.specs.Counts.{largest}
-use Rattle.ledger.proofs.Laws.{credit-row-done}
+use Rattle.ledger.proofs.Laws.{credit-row-calls}
 use Rattle.parts.specs.Parts.{depositOn}
 use borrow.Author.Needs.{needs}
 use Rattle.accounts.proofs.deposit.Statement.{statement}
@@ -37,7 +37,7 @@ returns-2 c = let start = c .before .before .before .before .before .before in
     rw (
       c .entry-amount .ensures,
       c .before .plus .ensures,
-      c .before .before .before .credit-row .ensures ∙ credit-row-done (a .row) (a .token) (a .n .0) (omega (arith, start .pre .0)) (omega (arith, start .pre .1, ltb-false largest (a .supply .0 + a .n .0) no)),
+      c .before .before .before .credit-row .ensures ∙ credit-row-calls (a .row) (a .token) (a .n .0) .done (omega (arith, start .pre .0)) (omega (arith, start .pre .1, ltb-false largest (a .supply .0 + a .n .0) no)),
       no,
     )
 

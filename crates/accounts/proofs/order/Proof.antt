@@ -7,7 +7,7 @@ use Rattle.units.specs.Counts.{amount}
 use Rattle.units.proofs.Counts.{below-is}
 use Rattle.ledger.specs.Balances.{cellOf}
 use Rattle.ledger.specs.Postings.{debitRowOf}
-use Rattle.ledger.proofs.Laws.{debit-row-done}
+use Rattle.ledger.proofs.Laws.{debit-row-calls}
 use Rattle.model.specs.Sides.{offered}
 use Rattle.parts.specs.Parts.{orderOn}
 use Rattle.model.proofs.Frames.{offered-lt}
@@ -61,7 +61,7 @@ returns-3 c = let start = c .before .before .before .before .before .before .bef
     rw (
       sym (c .before .before .before .before .before .before .before .before .in-use .ensures) ∙ c .before .before .before .before .before .before .before .if1 .left,
       no,
-      c .before .debit-row .ensures ∙ ap (λ (u : ℕ). debitRowOf (a .row) u (a .o .offer .0)) et ∙ debit-row-done (a .row) t (a .o .offer .0) (omega (arith, offered-lt (a .o .side) (a .o .market) (start .pre))) (ltb-false _ _ no),
+      c .before .debit-row .ensures ∙ ap (λ (u : ℕ). debitRowOf (a .row) u (a .o .offer .0)) et ∙ debit-row-calls (a .row) t (a .o .offer .0) .done (omega (arith, offered-lt (a .o .side) (a .o .market) (start .pre))) (ltb-false _ _ no),
     )
 
 pub order-spec : {M : Type 1} → statement M

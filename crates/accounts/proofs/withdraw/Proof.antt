@@ -4,7 +4,7 @@ use native.Mathlib.Omega.{arith}
 use borrow.Author.Tests.{ltb-false}
 use Rattle.units.proofs.Counts.{below-is}
 use Rattle.ledger.specs.Balances.{cellOf}
-use Rattle.ledger.proofs.Laws.{debit-row-done}
+use Rattle.ledger.proofs.Laws.{debit-row-calls}
 use Rattle.parts.specs.Parts.{withdrawOn}
 use borrow.Author.Needs.{needs}
 use Rattle.accounts.proofs.withdraw.Statement.{statement}
@@ -42,7 +42,7 @@ returns-2 c = let start = c .before .before .before .before .before .before .bef
     rw (
       c .entry-amount .ensures,
       c .before .minus .ensures,
-      c .before .before .before .debit-row .ensures ∙ debit-row-done (a .row) (a .token) (a .n .0) (omega (arith, start .pre .0)) (ltb-false _ _ no),
+      c .before .before .before .debit-row .ensures ∙ debit-row-calls (a .row) (a .token) (a .n .0) .done (omega (arith, start .pre .0)) (ltb-false _ _ no),
       no,
     )
 

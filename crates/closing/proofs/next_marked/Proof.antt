@@ -2,23 +2,24 @@
 use mathlib.Core.Path.{sym, ap, _∙_}
 use native.Mathlib.Omega.{arith}
 use borrow.Author.Needs.{needs}
-use Rattle.ticket_set.specs.TicketSet.{nextOf}
+use borrow.Author.Tests.{le-ltb, lt-ltb}
 use Rattle.model.specs.declared.state.Market.{Market}
 use Rattle.model.specs.State.{roundIn}
 use Rattle.parts.proofs.OnParts.{market-place}
-use Rattle.model.proofs.ReachBounds.{reachable-bounded}
-use Rattle.closing.specs.Closings.{nextMarked}
-use Rattle.closing.proofs.Turns.{no-market-low, no-market-high}
+use Rattle.closing.specs.Closings.{markedIn, nextMarked}
+use Rattle.closing.proofs.Turns.{told-is}
 use Rattle.closing.proofs.next_marked.Statement.{statement}
 use Rattle.closing.proofs.next_marked.Tie as tie
 
+ruleset tests = (needs, lt-ltb, le-ltb)
+
 returns : tie.Need-returns
-returns c = let a = c .before .args in sym (no-market-low (a .t1) (a .market) (omega (arith, c .if1 .taken)))
+unfolding nextMarked
+returns c = search tests
 
 returns-2 : tie.Need-returns-2
-returns-2 c =
-    let s = c .before .before in
-    sym (no-market-high (s .args .t1) (reachable-bounded (s .args .t1) (s .pre)) (s .args .market) (omega (arith, c .if2 .taken)))
+unfolding nextMarked
+returns-2 c = search tests
 
 cast-n : tie.Need-cast-n
 cast-n c = search needs
@@ -32,16 +33,17 @@ element-copy-out-marked c = search needs
 marked-requires : tie.Need-marked-requires
 marked-requires c κs = search needs
 
-next-ticket-requires : tie.Need-next-ticket-requires
-next-ticket-requires c κs = search needs
+told-requires : tie.Need-told-requires
+told-requires c κs = search needs
 
 returns-3 : tie.Need-returns-3
-unfolding nextMarked
 returns-3 c =
-    let a = c .before .before .before .before .before .args in
-    c .next-ticket .ensures
-    ∙ ap nextOf
-    (c .before .marked .ensures ∙ ap (λ (m : Market). roundIn (m .phase) .tickets) (market-place (a .t1 .markets) (a .market) (omega (arith, c .before .before .before .before .if1 .left))))
+    let s = c .before .before .before .before .before in
+    let low = c .before .before .before .before .if1 .left in
+    let high = c .before .before .before .if2 .left in
+    c .told .ensures
+    ∙ ap markedIn (c .before .marked .ensures ∙ ap (λ (m : Market). roundIn (m .phase) .tickets) (market-place (s .args .t1 .markets) (s .args .market) (omega (arith, low))))
+    ∙ sym (told-is (s .args .t1) (s .args .market) (omega (arith, low)) (omega (arith, high)))
 
 pub next-marked-spec : {M : Type 1} → statement M
 next-marked-spec =
@@ -53,5 +55,5 @@ next-marked-spec =
     mul-marked
     element-copy-out-marked
     marked-requires
-    next-ticket-requires
+    told-requires
     returns-3)

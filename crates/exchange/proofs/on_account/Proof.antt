@@ -48,7 +48,7 @@ element-set-from-after c = search needs
 returns : tie.Need-returns
 returns c =
     let s = c .before .before .before .before .before .before .before .before in
-    account-held (s .args .x) (s .args .x .ledger) (s .args .member) (s .args .token) (s .args .ticket) (s .args .act) _ (c .before .before .before .account-work .ensures)
+    account-held (s .args .x) (s .args .x .ledger) (s .pre .0) (s .args .member) (s .args .token) (s .args .ticket) (s .args .act) (s .pre .1) _ (c .before .before .before .account-work .ensures)
 
 pub on-account-spec : {M : Type 1} → statement M
 on-account-spec =

@@ -55,8 +55,7 @@ element-set-from-after c =
 returns : tie.Need-returns
 returns c =
     let s = c .before .before .before .before .before .before in
-    let p = places (s .args .x) (s .args .x .ledger) (s .pre .0) (s .args .ticket) (s .pre .1) _ (c .before .before .before .before .ticket-market .ensures) in
-    entry-held (s .args .x) (s .args .x .ledger) (s .args .ticket) _ (p .0) (c .before .before .before .before .ticket-market .ensures) (s .args .act) _ (c .before .before .entry-work .ensures)
+    entry-held (s .args .x) (s .args .x .ledger) (s .pre .0) (s .args .ticket) (s .pre .1) _ (c .before .before .before .before .ticket-market .ensures) (s .args .act) _ (c .before .before .entry-work .ensures)
 
 pub on-entry-spec : {M : Type 1} → statement M
 on-entry-spec =

@@ -42,7 +42,7 @@ element-set-from-after c = search needs
 returns : tie.Need-returns
 returns c =
     let s = c .before .before .before .before .before .before .before .before in
-    market-held (s .args .x) (s .args .x .ledger) (s .args .market) (s .args .member) (s .args .block) (s .args .act) (s .pre .1 .0) _ (c .before .before .before .market-work .ensures)
+    market-held (s .args .x) (s .args .x .ledger) (s .pre .0) (s .args .market) (s .args .member) (s .args .block) (s .args .act) (s .pre .1) _ (c .before .before .before .market-work .ensures)
 
 pub on-market-spec : {M : Type 1} → statement M
 on-market-spec =

@@ -354,23 +354,24 @@ done-is c =
     let a = c .before .before .before .before .before .before .before in
     let x = a .loop .x in
     let l = a .loop .ledger in
+    let h = a .loop .inv .1 in
     ⊎-elim
     (λ w. outcome-by _ _ _ _ _ _ (w .3) (w .4) (w .5) ∙ sym (ap (workDone (held x l)) (w .1 .given .1)))
     (⊎-elim
-    (λ w. outcome-by _ _ _ _ _ _ (w .10) (w .11) (w .12) ∙ account-held x l _ _ _ (w .1 .given .0 .1 .1 .1 .0) (w .6 .result) (w .6 .ensures) ∙ sym (ap (workDone (held x l)) (w .1 .given .1)))
+    (λ w.
+    let p = subst PlacesExist (w .1 .given .1) (work-places (c .before)) in
+    outcome-by _ _ _ _ _ _ (w .10) (w .11) (w .12) ∙ account-held x l h _ _ _ (w .1 .given .0 .1 .1 .1 .0) p (w .6 .result) (w .6 .ensures) ∙ sym (ap (workDone (held x l)) (w .1 .given .1)))
     (⊎-elim
     (λ w.
     let p = subst PlacesExist (w .1 .given .1) (work-places (c .before)) in
-    outcome-by _ _ _ _ _ _ (w .10) (w .11) (w .12) ∙ market-held x l _ _ (w .1 .given .0 .1 .1 .0) (w .1 .given .0 .1 .1 .1 .0) (p .0) (w .6 .result) (w .6 .ensures) ∙ sym (ap (workDone (held x l)) (w .1 .given .1)))
+    outcome-by _ _ _ _ _ _ (w .10) (w .11) (w .12) ∙ market-held x l h _ _ (w .1 .given .0 .1 .1 .0) (w .1 .given .0 .1 .1 .1 .0) p (w .6 .result) (w .6 .ensures) ∙ sym (ap (workDone (held x l)) (w .1 .given .1)))
     (⊎-elim
     (λ w.
     let p = subst PlacesExist (w .1 .given .1) (work-places (c .before)) in
-    let q = places x l (a .loop .inv .1) _ p _ (w .4 .ensures) in
-    outcome-by _ _ _ _ _ _ (w .9) (w .10) (w .11) ∙ entry-held x l _ _ (q .0) (w .4 .ensures) (w .1 .given .0 .1 .0) (w .6 .result) (w .6 .ensures) ∙ sym (ap (workDone (held x l)) (w .1 .given .1)))
+    outcome-by _ _ _ _ _ _ (w .9) (w .10) (w .11) ∙ entry-held x l h _ p _ (w .4 .ensures) (w .1 .given .0 .1 .0) (w .6 .result) (w .6 .ensures) ∙ sym (ap (workDone (held x l)) (w .1 .given .1)))
     (λ w.
     let p = subst PlacesExist (w .1 .given .1) (work-places (c .before)) in
-    let q = places x l (a .loop .inv .1) _ p _ (w .4 .ensures) in
-    outcome-by _ _ _ _ _ _ (w .16) (w .17) (w .18) ∙ claim-held x l _ _ (q .0) (w .4 .ensures) _ (w .5 .ensures) (w .10 .result) (w .10 .ensures)
+    outcome-by _ _ _ _ _ _ (w .16) (w .17) (w .18) ∙ claim-held x l h _ p _ (w .4 .ensures) _ (w .5 .ensures) (w .10 .result) (w .10 .ensures)
     ∙ sym (ap (workDone (held x l)) (w .1 .given .1))))))
     (c .match .came)
 
@@ -384,7 +385,7 @@ module _ (c : tie.After-write-answer Inv-loop μ-loop) where
 
   ends : c .before .before .before .before .before .read-line .result .end ≡ at-loop .loop .i + length line
   unfolding at-loop line
-  ends = line-end-is _ _ _ (c .before .before .before .before .before .read-line .ensures)
+  ends = line-end-is _ _ _ (c .before .before .before .before .before .read-line .ensures .0)
 
   whole : c .before .before .before .before .before .read-line .result .end < length (at-loop .before .before .before .before .before .args .input .now)
   unfolding at-loop line
@@ -397,7 +398,7 @@ module _ (c : tie.After-write-answer Inv-loop μ-loop) where
   unfolding at-loop line now
   is =
       line-outcome-is now line _ _
-      (line-read-is _ _ _ (c .before .before .before .before .before .read-line .ensures))
+      (line-read-is _ _ _ (c .before .before .before .before .before .read-line .ensures .0))
       (done-is (c .before .before)
       ∙ ap (workDone now) (c .before .before .before .work-in .ensures)
       ∙ work-outcome now (at-loop .loop .inv .1) (c .before .before .before .before .before .read-line .result .reading))
@@ -483,11 +484,12 @@ returns c =
     let l = c .before .before in
     record {
       advanced = advanced _ _ _ _ _ _ (unbegun _ (l .before .before .before .before .before .pre .1)) (l .loop .inv .2) (l .loop .inv .0);
+      whole = l .loop .inv .3;
       goes-on =
           goes-on _ _ _ _ _ _ _ _ _ (l .loop .inv .2) (l .loop .inv .3)
           (⊎-elim
           (λ w. inl (w .left))
-          (λ w. inr (⊎-elim (λ v. inl (v .1 .taken)) (λ v. inr (⊎-elim (λ u. inl (u .2 .taken)) (λ u. inr (sym (line-end-is _ _ _ (u .3 .ensures)) ∙ u .4 .taken)) v)) w))
+          (λ w. inr (⊎-elim (λ v. inl (v .1 .taken)) (λ v. inr (⊎-elim (λ u. inl (u .2 .taken)) (λ u. inr (sym (line-end-is _ _ _ (u .3 .ensures .0)) ∙ u .4 .taken)) v)) w))
           (c .before .loop-test .came));
     }
 

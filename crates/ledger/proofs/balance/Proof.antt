@@ -9,7 +9,8 @@ use Rattle.ledger.specs.declared.Row.{Row}
 use Rattle.ledger.specs.declared.Entry.the-variants.{Done}
 use Rattle.ledger.specs.Balances.{cellOf}
 use Rattle.ledger.specs.Postings.{balanceOf}
-use Rattle.ledger.proofs.Laws.{balance-done, balance-row}
+use Rattle.ledger.proofs.Rows.{balance-row}
+use Rattle.ledger.proofs.Laws.{balance-calls}
 use Rattle.ledger.proofs.balance.Statement.{statement}
 use Rattle.ledger.proofs.balance.Tie as tie
 
@@ -33,7 +34,7 @@ returns-3 c =
     ap Done (c .cell-of .ensures)
     ∙ ap (λ (r : Row). Done (amount (cellOf r (s .token)))) (c .before .row-of .ensures)
     ∙ ap (λ (n : ℕ). Done (amount n)) (sym (balance-row (s .l) (s .member) (s .token)))
-    ∙ sym (balance-done (s .l) (s .member) (s .token) (omega arith) (omega arith))
+    ∙ sym (balance-calls (s .l) (s .member) (s .token) .done (omega arith) (omega arith))
 
 pub balance-spec : {M : Type 1} → statement M
 balance-spec = tie.close (tie.spec returns returns-2 row-of-requires cell-of-requires returns-3)

@@ -4,7 +4,7 @@ use native.Mathlib.Omega.{arith}
 use borrow.Author.Needs.{needs}
 use borrow.Author.Tests.{lt-ltb}
 use Rattle.ledger.specs.Postings.{creditOf}
-use Rattle.ledger.proofs.Laws.{credit-by-row}
+use Rattle.ledger.proofs.Rows.{credit-by-row}
 use Rattle.ledger.proofs.credit.Statement.{statement}
 use Rattle.ledger.proofs.credit.Tie as tie
 

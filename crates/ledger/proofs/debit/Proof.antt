@@ -4,7 +4,7 @@ use native.Mathlib.Omega.{arith}
 use borrow.Author.Needs.{needs}
 use borrow.Author.Tests.{lt-ltb}
 use Rattle.ledger.specs.Postings.{debitOf}
-use Rattle.ledger.proofs.Laws.{debit-by-row}
+use Rattle.ledger.proofs.Rows.{debit-by-row}
 use Rattle.ledger.proofs.debit.Statement.{statement}
 use Rattle.ledger.proofs.debit.Tie as tie
 

@@ -2,7 +2,7 @@
 use native.Mathlib.Omega.{arith}
 use native.Mathlib.Nat.{pos-of-ne-zero}
 use borrow.Author.Needs.{needs}
-use Rattle.replay.proofs.FeedLaws.{untouched, fed-some, fed-same-out, fed-over}
+use Rattle.replay.proofs.FeedLaws.{untouched, fed-whole, fed-same-out, fed-over}
 use Rattle.stream.proofs.feed.Statement.{statement}
 use Rattle.stream.proofs.feed.Tie as tie
 
@@ -40,7 +40,10 @@ same-length-3 : tie.Need-same-length-3
 same-length-3 c = search needs
 
 returns-4 : tie.Need-returns-4
-returns-4 c = fed-some _ _ _ _ _ (c .before .before .before .before .whole-lines .ensures .advanced) (pos-of-ne-zero (c .if3 .left))
+returns-4 c =
+    let w = c .before .before .before .before in
+    let some = pos-of-ne-zero (c .if3 .left) in
+    fed-whole _ _ _ _ _ (w .whole-lines .ensures .advanced) (w .before .before .before .before .if1 .left) some (w .whole-lines .ensures .whole some)
 
 pub feed-spec : {M : Type 1} → statement M
 feed-spec =

@@ -162,7 +162,9 @@ returns-2 c =
     let s = k .before .before .before .before .before .before in
     let short : length (out p) < length (text (at-end p)) =
     count-none (out p) (text (at-end p)) (some-text (d k .exchange) (d k .done + 1) (whole (at-end p))) (sym (counted p) ∙ c .if3 .taken) in
-    line-waits (d k) (input (k .before)) (s .pre .1) (places k) (out p) _ (put p ∙ put-short (out p) (text (at-end p)) short) short (small (at-end p))
+    let ends-inside : length (lineIn (input (k .before))) < length (input (k .before)) =
+    omega (arith, ends (k .before), inside (k .before), at-end p .before .before .if2 .left) in
+    line-waits (d k) (input (k .before)) (s .pre .1) (places k) (out p) _ ends-inside (put p ∙ put-short (out p) (text (at-end p)) short) short (small (at-end p))
 
 add-t20 : tie.Need-add-t20
 unfolding input

@@ -22,7 +22,7 @@ returns c =
     let s = w .before .before .before .before .before .before in
     let a = s .before .args in
     let o = w .before .before .before .outcome-of in
-    let is = line-outcome-is (a .x) (a .line .now) _ (o .result) (w .before .before .before .before .read-call .ensures) (o .ensures) in (
+    let is = line-outcome-is (a .x) (a .line .now) _ (o .result) (w .before .before .before .before .read-call .ensures .0) (o .ensures) in (
       take-short (a .x) (a .number) (a .line .now) (a .out .now) (o .result) is _ (w .write-answer .ensures .0) (c .if1 .taken),
       (
         take-put (a .x) (a .number) (a .line .now) (a .out .now) (o .result) is _ (w .write-answer .ensures .1 .0),
@@ -39,7 +39,7 @@ returns-2 c =
     let s = w .before .before .before .before .before .before in
     let a = s .before .args in
     let o = w .before .before .before .outcome-of in
-    let is = line-outcome-is (a .x) (a .line .now) _ (o .result) (w .before .before .before .before .read-call .ensures) (o .ensures) in (
+    let is = line-outcome-is (a .x) (a .line .now) _ (o .result) (w .before .before .before .before .read-call .ensures .0) (o .ensures) in (
       take-fits (a .x) (a .number) (a .line .now) (a .out .now) (o .result) is _ (w .write-answer .ensures .0) (c .if1 .left),
       (
         take-put (a .x) (a .number) (a .line .now) (a .out .now) (o .result) is _ (w .write-answer .ensures .1 .0),

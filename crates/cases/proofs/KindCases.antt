@@ -1,0 +1,88 @@
+-- Kinds, fields, codes and answers, computed.
+use Prim.Native.Nat.{_<_, _≤_}
+use mathlib.Core.Path.{_≡_, refl, subst, sym}
+use mathlib.Core.List.{[], _∷_, _++_, map}
+use lib.ListN.{length, replicate}
+use mathlib.Core.Option.{some, none}
+use native.Mathlib.Omega.{arith}
+use Rattle.units.specs.Decimal.{digits}
+use Rattle.model.specs.declared.state.Exchange.{Exchange}
+use Rattle.model.specs.declared.answer.Answer.{Answer}
+use Rattle.model.specs.Answers.{refusalCode, answerLine}
+use Rattle.model.specs.Calls.{depositOf, withdrawOf, orderOf, cancelOf, openOf, enterOf, matchOf, bidOf, settleOf, claimOf}
+use Rattle.model.specs.Run.{stepOf}
+use Rattle.model.specs.Kinds.{kinds, numbersOfCall, codesIn}
+use Rattle.model.specs.Codes.{codesOf, Rising}
+use Rattle.cases.specs.KindCases.{CallSteps, claimRequest, RoomsUsed, doneCode, tenCalls, tenNumbers, tenCodes, testCodes, numbersFrom, rowCall, rowMore, rowFewer, refusals, answerNumbers, answers, answerTexts}
+use Rattle.model.proofs.Codes.{rooms-first}
+
+-- a call's numbers are its kind and its fields in their order, and a kind's row makes the call of its fields
+pub ten-numbers : map numbersOfCall tenCalls ≡ tenNumbers
+unfolding tenCalls tenNumbers
+ten-numbers = refl
+
+pub ten-rows : map rowCall kinds ≡ map some tenCalls
+unfolding tenCalls numbersFrom
+ten-rows = refl
+
+pub rows-exact : map rowMore kinds ++ map rowFewer kinds ≡ replicate 20 none
+unfolding numbersFrom
+rows-exact = refl
+
+-- the codes that a call tests, in any state and in its kind's row
+pub ten-codes : (x : Exchange) → map (testCodes x) tenCalls ≡ tenCodes
+unfolding tenCalls tenCodes
+ten-codes x = refl
+
+pub ten-kinds : map codesOf tenCalls ≡ tenCodes
+unfolding tenCalls tenCodes
+ten-kinds = refl
+
+-- where none of them applies, the call is accepted
+pub ten-done : (x : Exchange) → map (doneCode x) tenCalls ≡ replicate 10 0
+unfolding tenCalls
+ten-done x = refl
+
+pub no-kind : codesIn kinds 0 ++ codesIn kinds 11 ≡ []
+no-kind = refl
+
+-- two codes that are the same do not rise, nor does a list that falls at its end
+pub not-rising : (Rising (1 ∷ 1 ∷ []) → ⊥) × (Rising (1 ∷ 2 ∷ 2 ∷ []) → ⊥) × (Rising (2 ∷ 1 ∷ 3 ∷ []) → ⊥)
+not-rising = (λ r. omega (arith, r .0), λ r. omega (arith, r .1 .0), λ r. omega (arith, r .0))
+
+pub call-steps : (x : Exchange) → CallSteps x
+unfolding stepOf depositOf withdrawOf orderOf cancelOf openOf enterOf matchOf bidOf settleOf claimOf
+call-steps x =
+    record {
+      deposit-is = λ m t n. refl;
+      withdraw-is = λ m t n. refl;
+      order-is = λ k m mk sd lim n. refl;
+      cancel-is = λ k m. refl;
+      open-is = λ mk at r w len. refl;
+      enter-is = λ k. refl;
+      match-is = λ mk at. refl;
+      bid-is = λ mk m at sd n bound. refl;
+      settle-is = λ mk at. refl;
+      claim-is = λ k. refl;
+    }
+
+pub rooms-used : RoomsUsed
+unfolding answerLine digits
+rooms-used x e =
+    record {
+      short = rooms-first x (claimRequest 40 8 63) .short (subst (λ (a : Answer). 8 < length (answerLine 40 a)) (sym e) (omega arith));
+      enough = rooms-first x (claimRequest 40 9 63) .enough (subst (λ (a : Answer). length (answerLine 40 a) ≤ 9) (sym e) (omega arith));
+    }
+
+-- "1" to "21"
+pub refusals-numbered : map refusalCode refusals ≡ numbersFrom 21 1
+unfolding refusals numbersFrom
+refusals-numbered = refl
+
+pub answers-numbered : map answerNumbers answers ≡ (0, 7, 8) ∷ (20, 0, 0) ∷ (21, 0, 0) ∷ []
+unfolding answers
+answers-numbered = refl
+
+pub answers-written : map (answerLine 51) answers ≡ answerTexts
+unfolding answers answerTexts answerLine digits
+answers-written = refl

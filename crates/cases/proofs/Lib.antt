@@ -1,0 +1,9 @@
+pub mod Pasts
+pub mod KindCases
+pub mod ClosingCases
+pub mod BoundCases
+pub mod StateCases
+pub mod HistoryCases
+pub mod Fixes
+pub mod FixedRuns
+pub mod ClauseCases

@@ -1,0 +1,69 @@
+-- What is read off a state and the changes of a round, computed.
+use Prim.Native.Nat.{ℕ}
+use mathlib.Core.Bool.{true, false}
+use mathlib.Core.Path.{_≡_, ap, refl}
+use mathlib.Core.List.{[], _∷_, map}
+use Rattle.pricing.specs.declared.Side.the-variants.{Buy, Sell}
+use Rattle.model.specs.declared.state.TicketState.the-variants.{Free, Resting, Entered}
+use Rattle.model.specs.declared.state.Phase.the-variants.{Closed, Collect, Auction, Paying}
+use Rattle.model.specs.State.{freshExchange, blankRound, orderIn, restingOr, roundIn, totalsOf}
+use Rattle.cases.specs.Literals.{order}
+use Rattle.cases.specs.StateCases.{sizes, ticketTests, phaseTests, numbered, totalsFields, roundFields, roundsChanged, stateNumbers, statesChanged}
+use Rattle.ledger.proofs.Laws.{fresh-all-zero}
+use Rattle.model.proofs.Computing.{call-computes}
+
+-- the sixteen rows by the ledger's law
+pub fresh-sizes : sizes freshExchange ≡ 16 ∷ 4 ∷ 4 ∷ 64 ∷ 3 ∷ []
+fresh-sizes = ap (λ (n : ℕ). n ∷ 4 ∷ 4 ∷ 64 ∷ 3 ∷ []) (fresh-all-zero .shaped .rows)
+
+pub tickets-told : map ticketTests (Free ∷ Resting (order 1 2 Sell 3 4) ∷ Entered (order 1 2 Sell 3 4) ∷ []) ≡ (true ∷ false ∷ []) ∷ (false ∷ false ∷ []) ∷ (false ∷ true ∷ []) ∷ []
+tickets-told = refl
+
+pub orders-told : map orderIn (Free ∷ Resting (order 1 2 Sell 3 4) ∷ Entered (order 5 6 Sell 7 8) ∷ []) ≡ order 0 0 Buy 0 0 ∷ order 1 2 Sell 3 4 ∷ order 5 6 Sell 7 8 ∷ []
+orders-told = refl
+
+pub rests-told : map (restingOr (order 1 2 Sell 3 4)) (0 ∷ 1 ∷ 9 ∷ []) ≡ Free ∷ Resting (order 1 2 Sell 3 1) ∷ Resting (order 1 2 Sell 3 9) ∷ []
+rests-told = refl
+
+pub phases-told
+    : map phaseTests (Closed ∷ Collect numbered ∷ Auction numbered ∷ Paying numbered ∷ [])
+    ≡ (true ∷ false ∷ false ∷ false ∷ []) ∷ (false ∷ true ∷ false ∷ false ∷ []) ∷ (false ∷ false ∷ true ∷ false ∷ []) ∷ (false ∷ false ∷ false ∷ true ∷ []) ∷ []
+phases-told = refl
+
+pub rounds-told : map roundIn (Closed ∷ Collect numbered ∷ Auction numbered ∷ Paying numbered ∷ []) ≡ blankRound ∷ numbered ∷ numbered ∷ numbered ∷ []
+rounds-told = refl
+
+pub sides-told : map (λ s. totalsFields (totalsOf numbered s)) (Buy ∷ Sell ∷ []) ≡ (8 ∷ 9 ∷ 10 ∷ []) ∷ (11 ∷ 12 ∷ 13 ∷ []) ∷ []
+sides-told = refl
+
+pub rounds-changed
+    : map roundFields roundsChanged
+    ≡ (1 ∷ 2 ∷ 3 ∷ 4 ∷ 5 ∷ 20 ∷ 7 ∷ 8 ∷ 9 ∷ 10 ∷ 11 ∷ 12 ∷ 13 ∷ 14 ∷ 15 ∷ [])
+    ∷ (1 ∷ 2 ∷ 3 ∷ 4 ∷ 5 ∷ 6 ∷ 20 ∷ 8 ∷ 9 ∷ 10 ∷ 11 ∷ 12 ∷ 13 ∷ 14 ∷ 15 ∷ [])
+    ∷ (1 ∷ 2 ∷ 3 ∷ 4 ∷ 5 ∷ 6 ∷ 7 ∷ 20 ∷ 21 ∷ 22 ∷ 11 ∷ 12 ∷ 13 ∷ 14 ∷ 15 ∷ [])
+    ∷ (1 ∷ 2 ∷ 3 ∷ 4 ∷ 5 ∷ 6 ∷ 7 ∷ 8 ∷ 9 ∷ 10 ∷ 20 ∷ 21 ∷ 22 ∷ 14 ∷ 15 ∷ [])
+    ∷ (1 ∷ 2 ∷ 3 ∷ 4 ∷ 5 ∷ 6 ∷ 7 ∷ 8 ∷ 9 ∷ 10 ∷ 11 ∷ 12 ∷ 13 ∷ 20 ∷ 15 ∷ [])
+    ∷ (1 ∷ 2 ∷ 3 ∷ 4 ∷ 5 ∷ 6 ∷ 7 ∷ 8 ∷ 9 ∷ 10 ∷ 11 ∷ 12 ∷ 13 ∷ 14 ∷ 20 ∷ [])
+    ∷ (1 ∷ 2 ∷ 3 ∷ 4 ∷ 5 ∷ 6 ∷ 7 ∷ 20 ∷ 21 ∷ 22 ∷ 23 ∷ 24 ∷ 25 ∷ 14 ∷ 15 ∷ [])
+    ∷ (1 ∷ 2 ∷ 3 ∷ 4 ∷ 5 ∷ 6 ∷ 7 ∷ 8 ∷ 9 ∷ 10 ∷ 11 ∷ 12 ∷ 13 ∷ 20 ∷ 21 ∷ [])
+    ∷ (21 ∷ 23 ∷ 24 ∷ 22 ∷ 20 ∷ 0 ∷ 0 ∷ 0 ∷ 0 ∷ 0 ∷ 0 ∷ 0 ∷ 0 ∷ 0 ∷ 0 ∷ [])
+    ∷ (0 ∷ 0 ∷ 0 ∷ 0 ∷ 0 ∷ 0 ∷ 0 ∷ 0 ∷ 0 ∷ 0 ∷ 0 ∷ 0 ∷ 0 ∷ 0 ∷ 0 ∷ [])
+    ∷ []
+unfolding roundsChanged
+rounds-changed = refl
+
+pub states-changed
+    : map stateNumbers statesChanged
+    ≡ (1 ∷ 2 ∷ 3 ∷ 4 ∷ 5 ∷ 6 ∷ 0 ∷ 0 ∷ 0 ∷ 0 ∷ 0 ∷ [])
+    ∷ (1 ∷ 2 ∷ 3 ∷ 4 ∷ 5 ∷ 6 ∷ 20 ∷ 0 ∷ 0 ∷ 0 ∷ 0 ∷ [])
+    ∷ (0 ∷ 2 ∷ 3 ∷ 4 ∷ 5 ∷ 6 ∷ 0 ∷ 0 ∷ 0 ∷ 0 ∷ 0 ∷ [])
+    ∷ (1 ∷ 2 ∷ 3 ∷ 4 ∷ 5 ∷ 6 ∷ 0 ∷ 20 ∷ 0 ∷ 0 ∷ 0 ∷ [])
+    ∷ (1 ∷ 2 ∷ 3 ∷ 4 ∷ 5 ∷ 6 ∷ 0 ∷ 0 ∷ 20 ∷ 0 ∷ 0 ∷ [])
+    ∷ (1 ∷ 2 ∷ 23 ∷ 4 ∷ 5 ∷ 6 ∷ 0 ∷ 0 ∷ 0 ∷ 0 ∷ 0 ∷ [])
+    ∷ (1 ∷ 2 ∷ 3 ∷ 4 ∷ 5 ∷ 6 ∷ 0 ∷ 0 ∷ 0 ∷ 20 ∷ 0 ∷ [])
+    ∷ (1 ∷ 2 ∷ 3 ∷ 4 ∷ 5 ∷ 6 ∷ 0 ∷ 0 ∷ 0 ∷ 0 ∷ 20 ∷ [])
+    ∷ (1 ∷ 2 ∷ 3 ∷ 4 ∷ 5 ∷ 6 ∷ 0 ∷ 0 ∷ 0 ∷ 0 ∷ 0 ∷ [])
+    ∷ (1 ∷ 2 ∷ 3 ∷ 4 ∷ 5 ∷ 20 ∷ 0 ∷ 0 ∷ 0 ∷ 0 ∷ 0 ∷ [])
+    ∷ []
+unfolding statesChanged call-computes
+states-changed = refl

@@ -1,0 +1,9 @@
+pub mod Literals
+pub mod Pasts
+pub mod KindCases
+pub mod ClosingCases
+pub mod Fixes
+pub mod ClauseCases
+pub mod BoundCases
+pub mod StateCases
+pub mod HistoryCases

@@ -1,0 +1,20 @@
+-- Digits and text in a buffer, computed.
+use mathlib.Core.Path.{_≡_, refl}
+use mathlib.Core.List.{List, map}
+use Prim.Native.Nat.{ℕ}
+use lib.ListN.{length}
+use Rattle.units.specs.Decimal.{digits}
+use Rattle.decimal.specs.Buffer.{putAt, putInto, putCount}
+use Rattle.decimal.specs.Examples.{numbersWritten, textsPut, textsFitted}
+
+pub numbers-written : map (λ (e : ℕ × List ℕ × ℕ). (e .0, digits (e .0), length (digits (e .0)))) numbersWritten ≡ numbersWritten
+unfolding numbersWritten digits
+numbers-written = refl
+
+pub texts-put : map (λ (e : List ℕ × ℕ × List ℕ × List ℕ). (e .0, e .1, e .2, putAt (e .0) (e .1) (e .2))) textsPut ≡ textsPut
+unfolding textsPut putAt
+texts-put = refl
+
+pub texts-fitted : map (λ (e : List ℕ × List ℕ × List ℕ × ℕ). (e .0, e .1, putInto (e .0) (e .1), putCount (e .0) (e .1))) textsFitted ≡ textsFitted
+unfolding textsFitted putAt putInto putCount
+texts-fitted = refl

@@ -1,0 +1,133 @@
+-- Cases of document 01's prices, trades and shares, worked by hand.
+use Prim.Native.Nat.{ℕ}
+use mathlib.Core.Bool.{Bool, true, false}
+use mathlib.Core.List.{List, [], _∷_, map}
+use Rattle.units.specs.Counts.{amount}
+use Rattle.pricing.specs.declared.Side.{Side}
+use Rattle.pricing.specs.declared.Side.the-variants.{Buy, Sell}
+use Rattle.pricing.specs.declared.Trade.{Trade}
+use Rattle.pricing.specs.declared.Share.{Share}
+use Rattle.pricing.specs.Prices.{
+  highBound,
+  lowBound,
+  offLimit,
+  matchBase,
+  matchQuote,
+  tradeWithin,
+  auctionPrice,
+  quoteFor,
+  sharePaid,
+  shareGot,
+  shareOf,
+  fetches,
+}
+
+-- ---- 5 open: hi and lo of a reference price and a slack
+
+abbrev pub bounds : ℕ → ℕ → List ℕ
+bounds r w = highBound r w ∷ lowBound r w ∷ []
+
+unfoldable pub openCases : List (List ℕ × List ℕ)
+openCases =
+    -- "r 1, w 500,000: hi 1, lo 1."; "r 3, same w: hi 4, lo 2."; the day's
+    (bounds 1 500000, 1 ∷ 1 ∷ [])
+    ∷ (bounds 3 500000, 4 ∷ 2 ∷ [])
+    ∷ (bounds 2500000 100000, 2750000 ∷ 2250000 ∷ [])
+    -- no slack, and the largest terms
+    ∷ (bounds 7 0, 7 ∷ 7 ∷ [])
+    ∷ (bounds 1000000000 500000, 1500000000 ∷ 500000000 ∷ [])
+    -- 333,333 × 1.123456 = 374,484.9.., 333,333 × 0.876544 = 292,181.0..
+    ∷ (bounds 333333 123456, 374484 ∷ 292182 ∷ [])
+    ∷ []
+
+-- ---- 6 enter: "buy limit below hi, or sell limit above lo", with hi 2,750,000 and lo 2,250,000
+
+unfoldable pub limitCases : List (List Bool × List Bool)
+limitCases =
+    -- a buy's limit below lo, between, just below hi, at hi and above it
+    (
+      map (λ n. offLimit Buy n 2750000 2250000) (2000000 ∷ 2300000 ∷ 2749999 ∷ 2750000 ∷ 2750001 ∷ []),
+      true ∷ true ∷ true ∷ false ∷ false ∷ [],
+    )
+    -- a sell's limit below lo, at it, just above it, between and above hi
+    ∷ (
+      map (λ n. offLimit Sell n 2750000 2250000) (2249999 ∷ 2250000 ∷ 2250001 ∷ 2300000 ∷ 3000000 ∷ []),
+      false ∷ false ∷ true ∷ true ∷ true ∷ [],
+    )
+    ∷ []
+
+-- ---- 7 match: base and quote
+
+abbrev pub pair : Trade → List ℕ
+pair t = t .base .0 ∷ t .quote .0 ∷ []
+
+unfoldable pub matchCases : List (List ℕ × List ℕ)
+matchCases =
+    -- S the smaller, Q×1,000,000/r the smaller, both the same: 600 quote fetch 240 base at 2.5
+    (map (λ s. matchBase 600 s 2500000) (100 ∷ 239 ∷ 240 ∷ 241 ∷ 300 ∷ []), 100 ∷ 239 ∷ 240 ∷ 240 ∷ 240 ∷ [])
+    -- "rounded down": 7 / 3; 3 quote at a millionth
+    ∷ (matchBase 7 100 3000000 ∷ matchBase 3 5000000 1 ∷ matchBase 0 5 1 ∷ [], 2 ∷ 3000000 ∷ 0 ∷ [])
+    -- "rounded up": 600, 7.5, 10 and a millionth
+    ∷ (
+      matchQuote 240 2500000 ∷ matchQuote 3 2500000 ∷ matchQuote 4 2500000 ∷ matchQuote 1 1 ∷ matchQuote 0 5 ∷ [],
+      600 ∷ 8 ∷ 10 ∷ 1 ∷ 0 ∷ [],
+    )
+    -- the day's
+    ∷ (pair (tradeWithin 600 300 2500000 2750000), 240 ∷ 600 ∷ [])
+    -- "r 2,500,000, w 0, Q 100: S 3 gives 0, 0; S 4 gives 4, 10.": 4 costs just hi
+    ∷ (pair (tradeWithin 100 3 2500000 2500000), 0 ∷ 0 ∷ [])
+    ∷ (pair (tradeWithin 100 4 2500000 2500000), 4 ∷ 10 ∷ [])
+    -- "Where c×1,000,000 > hi×m": 8 for 3 base, where hi is 2.666666 and 2.666667
+    ∷ (pair (tradeWithin 100 3 2500000 2666666), 0 ∷ 0 ∷ [])
+    ∷ (pair (tradeWithin 100 3 2500000 2666667), 3 ∷ 8 ∷ [])
+    -- nothing on a side
+    ∷ (pair (tradeWithin 0 5 2500000 2750000), 0 ∷ 0 ∷ [])
+    ∷ (pair (tradeWithin 5 0 2500000 2750000), 0 ∷ 0 ∷ [])
+    ∷ []
+
+-- ---- 8 bid
+
+-- the prices at blocks 0 to 3 of 3, and the quotes for n base at blocks 0, 5 and 10 of 10 between 2.75 and 2.25
+abbrev pub prices : Side → ℕ → ℕ → List ℕ
+prices x hi lo = map (λ k. auctionPrice x hi lo k 3) (0 ∷ 1 ∷ 2 ∷ 3 ∷ [])
+
+abbrev pub quotes : Side → ℕ → List ℕ
+quotes x n = map (λ k. quoteFor x n (auctionPrice x 2750000 2250000 k 10)) (0 ∷ 5 ∷ 10 ∷ [])
+
+unfoldable pub bidCases : List (List ℕ × List ℕ)
+bidCases =
+    -- hi - lo 7 in three: 0, 2.3.., 4.6.. and 7, rounded down
+    (prices Sell 100 93, 100 ∷ 98 ∷ 96 ∷ 93 ∷ [])
+    ∷ (prices Buy 100 93, 93 ∷ 95 ∷ 97 ∷ 100 ∷ [])
+    -- the day's bid at k 5 costs 150; "at k 0 for 60 base costs 165, at k 10 costs 135"; the buys' prices the other way
+    ∷ (quotes Sell 60, 165 ∷ 150 ∷ 135 ∷ [])
+    ∷ (quotes Buy 60, 135 ∷ 150 ∷ 165 ∷ [])
+    -- 90.75, 82.5 and 74.25: side 1 pays rounded up, side 0 gets rounded down
+    ∷ (quotes Sell 33, 91 ∷ 83 ∷ 75 ∷ [])
+    ∷ (quotes Buy 33, 74 ∷ 82 ∷ 90 ∷ [])
+    ∷ (quoteFor Sell 1 1 ∷ quoteFor Sell 0 5 ∷ quoteFor Buy 1 999999 ∷ quoteFor Buy 1 1000000 ∷ [], 1 ∷ 0 ∷ 0 ∷ 1 ∷ [])
+    -- above 32 bits
+    ∷ (quoteFor Sell 4294967295 1500000001 ∷ quoteFor Buy 4294967295 1500000001 ∷ [], 6442450946795 ∷ 6442450946794 ∷ [])
+    ∷ []
+
+-- ---- 10 claim
+
+abbrev pub shared : Share → List ℕ
+shared s = s .paid .0 ∷ s .got .0 ∷ []
+
+unfoldable pub claimCases : List (List ℕ × List ℕ)
+claimCases =
+    -- "Offers 100, 100, 101 (T 301), P 200, G 80: paid 67, 67, 68; got 26 each"
+    (map (λ o. sharePaid o 200 301) (100 ∷ 100 ∷ 101 ∷ []), 67 ∷ 67 ∷ 68 ∷ [])
+    ∷ (map (λ o. shareGot o 80 301) (100 ∷ 100 ∷ 101 ∷ []), 26 ∷ 26 ∷ 26 ∷ [])
+    -- the whole side, one unit, and nothing paid or got
+    ∷ (map (λ o. sharePaid o 200 301) (0 ∷ 1 ∷ 301 ∷ []), 0 ∷ 1 ∷ 200 ∷ [])
+    ∷ (map (λ o. shareGot o 80 301) (0 ∷ 1 ∷ 3 ∷ 4 ∷ 301 ∷ []), 0 ∷ 0 ∷ 0 ∷ 1 ∷ 80 ∷ [])
+    ∷ (sharePaid 5 0 301 ∷ shareGot 5 0 301 ∷ [], 0 ∷ 0 ∷ [])
+    ∷ (shared (shareOf 100 (record { total = amount 301; paid = amount 200; got = amount 80 })), 67 ∷ 26 ∷ [])
+    ∷ (shared (shareOf 101 (record { total = amount 301; paid = amount 200; got = amount 80 })), 68 ∷ 26 ∷ [])
+    -- "u units of quote fetch u×1,000,000/limit base": 26.4, 26.8, 27.2 at 2.5; "u units of base fetch u×limit/1,000,000 quote": 72, 74.25
+    ∷ (map (fetches Buy 2500000) (0 ∷ 66 ∷ 67 ∷ 68 ∷ []), 0 ∷ 26 ∷ 26 ∷ 27 ∷ [])
+    ∷ (map (fetches Sell 2250000) (0 ∷ 32 ∷ 33 ∷ []), 0 ∷ 72 ∷ 74 ∷ [])
+    ∷ (fetches Buy 1 3 ∷ fetches Buy 2000000000 2000 ∷ fetches Sell 1 999999 ∷ fetches Sell 1 1000000 ∷ [], 3000000 ∷ 1 ∷ 0 ∷ 1 ∷ [])
+    ∷ []

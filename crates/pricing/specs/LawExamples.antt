@@ -1,0 +1,91 @@
+-- The laws of Laws.antt in numbers: what each gives where it is just met, and what each refuses one unit further.
+use Prim.Native.Nat.{ℕ, _+_, _-_, _*_, _≤_, _<_}
+use mathlib.Core.List.{List, [], _∷_}
+use Rattle.pricing.specs.declared.Side.{Side}
+use Rattle.pricing.specs.declared.Side.the-variants.{Buy, Sell}
+use Rattle.pricing.specs.declared.Trade.{Trade}
+use Rattle.pricing.specs.Prices.{trade, tradeWithin, auctionPrice, sharePaid, shareGot, fetches}
+use Rattle.pricing.specs.Laws.{Moves, TradeFits, ShareLaw, Rate, PricesWithin, TradesFit, SharesHold, LimitsHold}
+
+-- "Offers 100, 100, 101 (T 301)"
+abbrev pub threeOffers : List ℕ
+threeOffers = 100 ∷ 100 ∷ 101 ∷ []
+
+-- ---- what they give
+
+pub record LawsUsed : Type 0 where
+  -- a side's price moves up, or down
+  pub buys-rise : (a b : ℕ) → Moves Buy a b → a ≤ b
+  pub sells-fall : (a b : ℕ) → Moves Sell a b → b ≤ a
+  -- buys paid at most 2.75 for a base unit, sells got at least 2.25
+  pub buys-rate : (P G : ℕ) → Rate Buy 2750000 2250000 P G → P * 1000000 ≤ G * 2750000
+  pub sells-rate : (P G : ℕ) → Rate Sell 2750000 2250000 P G → P * 2250000 ≤ G * 1000000
+  -- a trade, with 10 quote on one side and 4 base on the other, between 2.25 and 2.75
+  pub base-fits : (t : Trade) → TradeFits 10 4 2250000 2750000 t → t .base .0 ≤ 4
+  pub quote-fits : (t : Trade) → TradeFits 10 4 2250000 2750000 t → t .quote .0 ≤ 10
+  pub not-above : (t : Trade) → TradeFits 10 4 2250000 2750000 t → t .quote .0 * 1000000 ≤ 2750000 * t .base .0
+  pub not-below : (t : Trade) → TradeFits 10 4 2250000 2750000 t → 2250000 * t .base .0 ≤ t .quote .0 * 1000000
+  -- the three offers, whatever their side paid and got
+  pub paid-enough : (P G : ℕ) → ShareLaw 301 P G threeOffers → P ≤ 2 * sharePaid 100 P 301 + sharePaid 101 P 301
+  pub paid-close : (P G : ℕ) → ShareLaw 301 P G threeOffers → 2 * sharePaid 100 P 301 + sharePaid 101 P 301 < P + 3
+  pub got-within : (P G : ℕ) → ShareLaw 301 P G threeOffers → 2 * shareGot 100 G 301 + shareGot 101 G 301 ≤ G
+  pub got-close : (P G : ℕ) → ShareLaw 301 P G threeOffers → G < 2 * shareGot 100 G 301 + shareGot 101 G 301 + 3
+  pub refunds-fit :
+      (P G : ℕ) → ShareLaw 301 P G threeOffers → P ≤ 301 → 2 * (100 - sharePaid 100 P 301) + (101 - sharePaid 101 P 301) ≤ 301 - P
+  -- one offer
+  pub one-offer : (P G : ℕ) → ShareLaw 1 P G (1 ∷ []) → (sharePaid 1 P 1 < P + 1) × (G < shareGot 1 G 1 + 1)
+  -- the prices of both sides, at the first block and at the last, of one block, and where the bounds are the same
+  pub prices-first : PricesWithin → (x : Side) (len : ℕ) → 0 < len → (93 ≤ auctionPrice x 100 93 0 len) × (auctionPrice x 100 93 0 len ≤ 100)
+  pub prices-last : PricesWithin → (x : Side) (len : ℕ) → 0 < len → (93 ≤ auctionPrice x 100 93 len len) × (auctionPrice x 100 93 len len ≤ 100)
+  pub prices-one : PricesWithin → (x : Side) (hi lo : ℕ) → lo ≤ hi → (lo ≤ auctionPrice x hi lo 1 1) × (auctionPrice x hi lo 1 1 ≤ hi)
+  pub prices-same : PricesWithin → (x : Side) (k : ℕ) → k ≤ 64 → (5 ≤ auctionPrice x 5 5 k 64) × (auctionPrice x 5 5 k 64 ≤ 5)
+  -- what any two sides trade where lo is r, and with a hi below it
+  pub trades-at-lo : TradesFit → (q s hi : ℕ) → TradeFits q s 2500000 hi (tradeWithin q s 2500000 hi)
+  pub trades-under : TradesFit → (q s : ℕ) → TradeFits q s 2500000 2499999 (tradeWithin q s 2500000 2499999)
+  -- the three offers and the one, whatever is paid and got: more than T too
+  pub shares-three : SharesHold → (P G : ℕ) → ShareLaw 301 P G threeOffers
+  pub shares-one : SharesHold → (P G : ℕ) → ShareLaw 1 P G (1 ∷ [])
+  -- a buy whose limit is just hi, and a sell whose limit is just lo
+  pub buy-limit :
+      LimitsHold → (o P G T : ℕ) → 0 < T → P * 1000000 ≤ G * 2750000 → fetches Buy 2750000 (sharePaid o P T - 1) ≤ shareGot o G T
+  pub sell-limit :
+      LimitsHold → (o P G T : ℕ) → 0 < T → P * 2250000 ≤ G * 1000000 → fetches Sell 2250000 (sharePaid o P T - 1) ≤ shareGot o G T
+  -- the least limit and the least total
+  pub least-limit : LimitsHold → (o P G : ℕ) → P * 1000000 ≤ G → fetches Buy 1 (sharePaid o P 1 - 1) ≤ shareGot o G 1
+
+-- ---- what meets them
+
+pub record LawsMet : Type 0 where
+  pub buys-level : Moves Buy 5 5
+  pub sells-level : Moves Sell 5 5
+  -- 11 paid for 4 base at 2.75, 9 got for 4 base at 2.25
+  pub buys-rate : Rate Buy 2750000 2250000 11 4
+  pub sells-rate : Rate Sell 2750000 2250000 4 9
+  -- 4 base for 10 quote: all of both sides, at hi and at lo
+  pub trade-fits : TradeFits 10 4 2500000 2500000 (trade 4 10)
+
+-- ---- what they refuse, one unit further
+
+pub record LawsRefused : Type 0 where
+  pub buys-fall : Moves Buy 6 5 → ⊥
+  pub sells-rise : Moves Sell 5 6 → ⊥
+  -- one more paid, one less got, one millionth off
+  pub buys-paid : Rate Buy 2750000 2250000 12 4 → ⊥
+  pub buys-got : Rate Buy 2750000 2250000 11 3 → ⊥
+  pub buys-high : Rate Buy 2749999 2250000 11 4 → ⊥
+  pub sells-paid : Rate Sell 2750000 2250000 5 9 → ⊥
+  pub sells-got : Rate Sell 2750000 2250000 4 8 → ⊥
+  pub sells-low : Rate Sell 2750000 2250001 4 9 → ⊥
+  -- 4 base for 10 quote: with 3 base, with 9 quote, with bounds just under the price, and just above it
+  pub base-over : TradeFits 10 3 2500000 2500000 (trade 4 10) → ⊥
+  pub quote-over : TradeFits 9 4 2500000 2500000 (trade 4 10) → ⊥
+  pub price-above : TradeFits 10 4 2499999 2499999 (trade 4 10) → ⊥
+  pub price-below : TradeFits 10 4 2500001 2500001 (trade 4 10) → ⊥
+  -- offers that are not their side's: 1 of 2 pays 1 where 2 were paid; 2 of 1 pay 2 where 1 was paid
+  pub paid-short : ShareLaw 2 2 0 (1 ∷ []) → ⊥
+  pub paid-over : ShareLaw 1 1 0 (2 ∷ []) → ⊥
+  -- 2 and 1 of 2 get 3 where 2 were got; 1 of 2 gets 1 of 2
+  pub got-over : ShareLaw 2 1 2 (2 ∷ 1 ∷ []) → ⊥
+  pub got-short : ShareLaw 2 0 2 (1 ∷ []) → ⊥
+  -- 2 of 1 take back 2 where nothing was paid
+  pub refunds-over : ShareLaw 1 0 0 (2 ∷ []) → ⊥
