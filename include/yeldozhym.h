@@ -1,5 +1,5 @@
 /*
- * Yeldozhym: a day of call lines worked as a whole, for hosts in C and in whatever calls C. Link libyeldozhym.a, which
+ * Yeldozhym: a day of call lines worked as a whole, for hosts in C (C11), in C++ (C++11) and in whatever calls C. Link libyeldozhym.a, which
  * `rt staticlib yeldozhym` proves and writes to target/staticlib (x86-64 Linux); it needs memcpy, memmove and memset of the C library.
  */
 #ifndef YELDOZHYM_H
@@ -12,29 +12,59 @@
 extern "C" {
 #endif
 
+/* The version of the tree that this header is from: what its file VERSION has. The archive carries none: take both from one tree. */
+#define YELDOZHYM_VERSION "1.0.0"
+
 /* No answer line is longer, its byte 10 included. The header before the first answer line takes YELDOZHYM_HEADER bytes. */
-#define YELDOZHYM_LONGEST_ANSWER ((size_t)35)
-#define YELDOZHYM_HEADER ((size_t)23)
+#define YELDOZHYM_LONGEST_ANSWER 35UL
+#define YELDOZHYM_HEADER 23UL
+
+/*
+ * The stack that a call may take below the frame that makes it, in bytes. tests/library measures about 24 KB and fails above this figure; the
+ * rest is room for other C libraries and processors. No contract can say what a call takes. The measure has in it what memcpy and its like
+ * take, and the dynamic linker where it binds them at their first call.
+ *
+ * A thread's stack holds more than this: the thread's own block, its thread-local storage and the frames down to the caller's. So a thread
+ * that makes the call and does little else is given YELDOZHYM_STACK + PTHREAD_STACK_MIN bytes, and as many more as the program's
+ * thread-local variables take, which glibc has on each thread's stack.
+ */
+#define YELDOZHYM_STACK 65536UL
 
 /*
  * Works the day that the input_len bytes at input hold, from the fresh state on: call lines, each ended by byte 10; a last line without
  * byte 10 counts if it has bytes. The day's text is the header and one answer line for each line, up to line 4,294,967,295. Call lines, the
- * header and answer lines are those of document 01, "Day lines". The text is not ended by byte 0.
+ * header and answer lines are those of document 01, "Day lines", and docs/FORMAT.md. The text is not ended by byte 0.
  *
  * Answers the length of that text. Where it is at most out_len, the text is at the start of out and no byte after it has changed. Where it
  * is more, no byte of out has changed. So the text was written exactly where the answer is at most out_len, and a call with out_len 0 asks
  * for the room. YELDOZHYM_HEADER + YELDOZHYM_LONGEST_ANSWER * lines bytes are always enough, where lines counts a last line without byte 10
  * too. Any bytes will do as input: the call has no other way to fail. This is proved; the text is `dayOf` of crates/replay/specs/Days.antt.
  *
- * What a caller must keep to, which nothing checks: input points to input_len bytes that may be read, out to out_len bytes that may be
- * read and written, neither is null, even where its length is 0, the two do not overlap, and nothing else writes to either, or reads out,
- * before the call returns.
+ * NEITHER POINTER MAY BE NULL, EVEN WHERE ITS LENGTH IS 0. The data of an empty vector may be null: hand that to yeldozhym_work_day, below.
+ * What else a caller must keep to, which nothing checks: input points to input_len bytes that may be read, out to out_len bytes that may be
+ * read and written, the two do not overlap, and nothing else writes to either, or reads out, before the call returns. Nothing unwinds
+ * through the call, for the archive has no unwind tables: no signal handler throws out of it, and no thread is cancelled asynchronously in
+ * it, or the destructors of its callers do not run.
  *
- * It keeps nothing between calls and no pointer after them, makes no system call and takes no memory but the stack, about 28 KB. So
+ * It keeps nothing between calls and no pointer after them, makes no system call and takes no memory but the stack (YELDOZHYM_STACK). So
  * threads may call it at the same time, each with buffers of its own. It works the day twice, once for the room; the first time alone
  * where out is too short.
  */
 size_t yeldozhym_day(const uint8_t *input, size_t input_len, uint8_t *out, size_t out_len);
+
+/*
+ * The same, of pointers that may be null where their length is 0: such a pointer is not handed on, whatever it is. A null pointer with
+ * another length is as wrong as it is above. This is C, compiled with the caller: no proof covers it, tests/library tries it.
+ */
+#ifndef __cplusplus
+static
+#endif
+inline size_t yeldozhym_work_day(const uint8_t *input, size_t input_len, uint8_t *out, size_t out_len)
+{
+    uint8_t no_input = 0, no_out = 0;
+
+    return yeldozhym_day(input_len == 0 ? &no_input : input, input_len, out_len == 0 ? &no_out : out, out_len);
+}
 
 #ifdef __cplusplus
 }

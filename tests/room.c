@@ -24,12 +24,9 @@ static void fail(const char *what, size_t lent)
     exit(1);
 }
 
-/* Works the day with some bytes of out lent, and sees what became of them; answers the room that is told. */
-static size_t work(size_t len, size_t lent)
+/* Sees what became of the bytes of out, some of which were lent, where so much room is told. */
+static void see(size_t room, size_t lent)
 {
-    memset(out, MARK, lent + MARGIN);
-
-    size_t room = yeldozhym_day(input, len, out, lent);
     size_t written = room <= lent ? room : 0;
 
     for (size_t i = 0; i < lent + MARGIN; i++) {
@@ -38,6 +35,20 @@ static size_t work(size_t len, size_t lent)
         if (i >= written && out[i] != MARK)
             fail("a byte that is no text was written", lent);
     }
+}
+
+/* Works the day with some bytes of out lent, by both functions of the header, to one of them null for no bytes; answers the room that is told. */
+static size_t work(size_t len, size_t lent)
+{
+    memset(out, MARK, lent + MARGIN);
+
+    size_t room = yeldozhym_day(input, len, out, lent);
+
+    see(room, lent);
+    memset(out, MARK, lent + MARGIN);
+    if (yeldozhym_work_day(len == 0 ? NULL : input, len, lent == 0 ? NULL : out, lent) != room)
+        fail("yeldozhym_work_day tells another room", lent);
+    see(room, lent);
     return room;
 }
 

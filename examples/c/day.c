@@ -1,5 +1,6 @@
 /*
  * Works a day: reads call lines from standard input to its end and writes the answers to standard output.
+ * Says a read or write that fails on standard error, and ends with status 1.
  *
  *   rt staticlib yeldozhym
  *   cc -Iinclude -o day examples/c/day.c target/staticlib/libyeldozhym.a
@@ -59,13 +60,12 @@ int main(void)
         return failed("cannot read");
 
     /* a buffer of no bytes asks for the room; a host that counts its lines need not ask, see yeldozhym.h */
-    uint8_t none;
-    size_t room = yeldozhym_day(input, len, &none, 0);
+    size_t room = yeldozhym_work_day(input, len, NULL, 0);
     uint8_t *out = calloc(room, 1);
 
     if (out == NULL)
         return failed("no room for the answers");
-    yeldozhym_day(input, len, out, room);
+    yeldozhym_work_day(input, len, out, room);
     if (fwrite(out, 1, room, stdout) != room || fflush(stdout) != 0)
         return failed("cannot write");
     free(out);

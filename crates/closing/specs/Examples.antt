@@ -6,9 +6,12 @@ use Rattle.model.specs.declared.call.Call.{Call}
 use Rattle.model.specs.declared.call.Call.the-variants.{Deposit, Order, Open, Enter, Match, Bid, Settle, Claim}
 use Rattle.model.specs.State.{freshExchange}
 use Rattle.model.specs.Answers.{codeOf, firstOf, secondOf}
-use Rattle.model.specs.Run.{stepOf}
+use Rattle.model.specs.Run.{Request, stepOf}
 use Rattle.model.specs.Closing.{afterCalls}
 use Rattle.model.specs.Day.{untilMatch}
+use Rattle.pricing.specs.declared.Side.{Side}
+use Rattle.model.specs.Sides.{bySide}
+use Rattle.model.specs.History.{History, RoundLog, Stage, emptyLog, noHistory, running, setBidBase, setBidQuote, setC, setM, setStage, withRound}
 use Rattle.closing.specs.Closings.{nextMarked}
 
 -- a host makes a call, or asks for a market's next ticket: the answer's code and two numbers
@@ -108,8 +111,11 @@ asked = dayAsked ∷ marketsAsked ∷ []
 -- ---- the calls of a host that closes the day's market
 
 -- after line 10
+abbrev pub untilBid : List Call
+untilBid = untilMatch ++ (Bid 1 2 19 1 60 160 ∷ [])
+
 abbrev pub bidTaken : Exchange
-bidTaken = afterCalls freshExchange (untilMatch ++ (Bid 1 2 19 1 60 160 ∷ []))
+bidTaken = afterCalls freshExchange untilBid
 
 -- where it makes no claim, one, two, and as many as it is told of; and a claim of each ticket that the round marks
 unfoldable pub dayClosed : List (List Call)
@@ -120,3 +126,18 @@ dayClosed =
     ∷ (Settle 1 19 ∷ Claim 0 ∷ Claim 1 ∷ [])
     ∷ (Settle 1 19 ∷ Claim 0 ∷ Claim 1 ∷ [])
     ∷ []
+
+-- ---- what a settle tells
+
+-- the day's settle, line 11, with just room for "11,0,600,300" and byte 10
+abbrev pub daySettle : Request
+daySettle = record { line = 11; room = 13; call = Settle 1 19 }
+
+-- a round with a match of 240 base for 600 quote, bids of 7 base for 15 quote on side 0 and of 60 base for 150 quote on side 1
+abbrev pub soldLog : Stage → RoundLog
+soldLog stage =
+    setBidQuote (setBidBase (setC (setM (setStage emptyLog stage) 240) 600) (λ (side : Side). bySide side 7 60)) (λ (side : Side). bySide side 15 150)
+
+-- market 2 has it
+abbrev pub soldHistory : Stage → History
+soldHistory stage = withRound noHistory 2 (running (soldLog stage))

@@ -49,7 +49,7 @@ fn take_piece(d: Day, input: &[u8], out: &mut [u8]) -> Step
         let next = fed.day;
         day = next;
         let wrote = fed.wrote;
-        if !io::write_all(STDOUT_FILENO, &out[..wrote]) {
+        if stdio::write(STDOUT_FILENO, &out[..wrote]) < wrote {
             return Step {
                 day,
                 written: false,
@@ -78,7 +78,7 @@ fn take_all(d: Day, out: &mut [u8]) -> Ended
                 end: End::Finished,
             };
         }
-        let got = libc::read(STDIN_FILENO, &mut input);
+        let got = stdio::read(STDIN_FILENO, &mut input);
         if got < 0 {
             return Ended {
                 day,
@@ -117,7 +117,7 @@ fn take_last(d: Day, out: &mut [u8]) -> Step
     let fed = finish(d, out);
     let day = fed.day;
     let wrote = fed.wrote;
-    let written = io::write_all(STDOUT_FILENO, &out[..wrote]);
+    let written = stdio::write(STDOUT_FILENO, &out[..wrote]) == wrote;
     Step { day, written }
 }
 
@@ -139,20 +139,39 @@ fn replay_day() -> End {
     }
 }
 
-// A read or write that fails is told on standard error and ends the program.
+// Says why a write failed. One that took no byte sets no error: errno is then 0, or an error that passed before it.
+fn cannot_write() {
+    let error = os::errno();
+    if error != 0 {
+        if !stdio::passing(error) {
+            os::fail(b"day: cannot write");
+            return;
+        }
+    }
+    stdio::write(STDERR_FILENO, b"day: cannot write: no byte was taken\n");
+}
+
+// Arguments, and a read or write that fails, are told on standard error and end the program. The cause may be lost where standard error does not
+// take it at once; the last line is tried again.
 fn main() {
+    if 1 < os::arg_count() {
+        stdio::write(
+            STDERR_FILENO,
+            b"day (Yeldozhym 1.0.0): takes no arguments; usage: day <TRAFFIC >ANSWERS\n",
+        );
+        return;
+    }
     let mut end = End::CannotWrite;
     let first = header();
-    if io::write_all(STDOUT_FILENO, &first) {
+    if stdio::write(STDOUT_FILENO, &first) == first.len() {
         end = replay_day();
     }
     match end {
-        End::Finished => {}
-        End::CannotRead => {
-            io::write_all(STDERR_FILENO, b"day: cannot read\n");
+        End::Finished => {
+            return;
         }
-        End::CannotWrite => {
-            io::write_all(STDERR_FILENO, b"day: cannot write\n");
-        }
+        End::CannotRead => os::fail(b"day: cannot read"),
+        End::CannotWrite => cannot_write(),
     }
+    stdio::write(STDERR_FILENO, b"day: the answers are not whole\n");
 }

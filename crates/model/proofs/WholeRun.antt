@@ -76,7 +76,7 @@ request-keeps h y i q = go (ltb (q .room) (length (answerLine (q .line) (stepOf 
     go true = i
     go false = step-keeps h y i (q .call)
 
-run-keeps : (h : Exchange) (y : History) → Inv h y → (qs : List Request) → Inv (stateAfter requestOf h qs) (historyFrom y (eventsOf requestOf h qs))
+pub run-keeps : (h : Exchange) (y : History) → Inv h y → (qs : List Request) → Inv (stateAfter requestOf h qs) (historyFrom y (eventsOf requestOf h qs))
 unfolding stateAfter eventsOf historyFrom
 run-keeps h y i [] = i
 run-keeps h y i (q ∷ qs) = run-keeps (requestOf h q .exchange) (withEvent y (q .call) (requestOf h q .answer)) (request-keeps h y i q) qs

@@ -91,7 +91,7 @@ abbrev pub emptyLog : RoundLog
 emptyLog =
     record { stage = collecting; part = λ k. absent; m = 0; c = 0; bidBase = λ side. 0; bidQuote = λ side. 0 }
 
--- a round with one field set: a new field stands in the record, in emptyLog and in these, and nowhere else
+-- a round with one field set: a new field stands in the record, in emptyLog, in these and in a case, and nowhere else
 abbrev pub setStage : RoundLog → Stage → RoundLog
 setStage b v =
     record { stage = v; part = b .part; m = b .m; c = b .c; bidBase = b .bidBase; bidQuote = b .bidQuote }

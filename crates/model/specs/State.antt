@@ -153,7 +153,7 @@ totalsOf r Sell = r .sells
 
 -- ---- a round with one thing changed
 
--- one field set; a new field of a round is named here, in openedBetween, in the struct and where code opens a round
+-- one field set; a new field of a round is named here, in openedBetween, in the struct, where code opens a round and in a case
 
 abbrev pub withStart : Round → ℕ → Round
 withStart r b =

@@ -80,6 +80,9 @@ matchCases =
     -- "Where c×1,000,000 > hi×m": 8 for 3 base, where hi is 2.666666 and 2.666667
     ∷ (pair (tradeWithin 100 3 2500000 2666666), 0 ∷ 0 ∷ [])
     ∷ (pair (tradeWithin 100 3 2500000 2666667), 3 ∷ 8 ∷ [])
+    -- 1 for 1 base, where hi is a millionth less and where it is just that
+    ∷ (pair (tradeWithin 1 1 999999 999999), 0 ∷ 0 ∷ [])
+    ∷ (pair (tradeWithin 1 1 1000000 1000000), 1 ∷ 1 ∷ [])
     -- nothing on a side
     ∷ (pair (tradeWithin 0 5 2500000 2750000), 0 ∷ 0 ∷ [])
     ∷ (pair (tradeWithin 5 0 2500000 2750000), 0 ∷ 0 ∷ [])

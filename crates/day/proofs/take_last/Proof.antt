@@ -28,14 +28,14 @@ finish-requires c κs = c .before .before .pre .0
 written : (c : tie.After-finish) → c .finish .result .wrote ≤ length (c .finish .last .1 .0)
 written c = subst (λ (n : ℕ). c .finish .result .wrote ≤ n) (sym (c .finish .kept .1 .0)) (c .finish .ensures .advanced .fits)
 
-slice-reshare-prefix-write-all : tie.Need-slice-reshare-prefix-write-all
-slice-reshare-prefix-write-all c = written (c .before .before .before)
+slice-reshare-prefix-write : tie.Need-slice-reshare-prefix-write
+slice-reshare-prefix-write c = written (c .before .before .before)
 
-slice-aggregate-write-all : tie.Need-slice-aggregate-write-all
-slice-aggregate-write-all c = sym (length-take-le _ _ (written (c .before .before .before .before)))
+slice-aggregate-write : tie.Need-slice-aggregate-write
+slice-aggregate-write c = sym (length-take-le _ _ (written (c .before .before .before .before)))
 
-write-all-requires : tie.Need-write-all-requires
-write-all-requires c κs = tt
+write-requires : tie.Need-write-requires
+write-requires c κs = tt
 
 same-length : tie.Need-same-length
 same-length c = c .before .before .before .before .before .finish .kept .1 .0
@@ -48,8 +48,8 @@ take-last-spec =
     tie.close
     (tie.spec
     finish-requires
-    slice-reshare-prefix-write-all
-    slice-aggregate-write-all
-    write-all-requires
+    slice-reshare-prefix-write
+    slice-aggregate-write
+    write-requires
     same-length
     returns)

@@ -45,14 +45,14 @@ feed-requires c κs = c .before .before .before .loop .inv .2
 written : (c : tie.After-feed Inv-loop μ-loop) → c .feed .result .wrote ≤ length (c .feed .last .1 .1 .0)
 written c = subst (λ (n : ℕ). c .feed .result .wrote ≤ n) (sym (c .feed .kept .1 .1 .0)) (c .feed .ensures .advanced .fits)
 
-slice-reshare-prefix-write-all : tie.Need-slice-reshare-prefix-write-all Inv-loop μ-loop
-slice-reshare-prefix-write-all c = written (c .before .before .before)
+slice-reshare-prefix-write : tie.Need-slice-reshare-prefix-write Inv-loop μ-loop
+slice-reshare-prefix-write c = written (c .before .before .before)
 
-slice-aggregate-write-all : tie.Need-slice-aggregate-write-all Inv-loop μ-loop
-slice-aggregate-write-all c = sym (length-take-le _ _ (written (c .before .before .before .before)))
+slice-aggregate-write : tie.Need-slice-aggregate-write Inv-loop μ-loop
+slice-aggregate-write c = sym (length-take-le _ _ (written (c .before .before .before .before)))
 
-write-all-requires : tie.Need-write-all-requires Inv-loop μ-loop
-write-all-requires c κs = tt
+write-requires : tie.Need-write-requires Inv-loop μ-loop
+write-requires c κs = tt
 
 -- a front of the piece, and the part after it
 part-inside : (input part : List ℕ) (from used : ℕ) → part ≡ drop from input → from ≤ length input → used ≤ length part → from + used ≤ length input
@@ -152,4 +152,4 @@ returns-2 c =
 pub take-piece-spec : {M : Type 1} → statement M
 take-piece-spec =
     tie.close
-    (tie.spec Inv-loop μ-loop loop-holds sub-feed part-feed-start part-feed-end feed-requires slice-reshare-prefix-write-all slice-aggregate-write-all write-all-requires same-length returns add-from loop-less loop-again same-length-2 returns-2)
+    (tie.spec Inv-loop μ-loop loop-holds sub-feed part-feed-start part-feed-end feed-requires slice-reshare-prefix-write slice-aggregate-write write-requires same-length returns add-from loop-less loop-again same-length-2 returns-2)

@@ -135,7 +135,7 @@ element-copy-out-account-work-2 : tie.Need-element-copy-out-account-work-2 Inv-l
 element-copy-out-account-work-2 c = account-places (c .before .before) .1
 
 mul-account-work-3 : tie.Need-mul-account-work-3 Inv-loop μ-loop
-mul-account-work-3 c = scaled-fits _ 64 24 (account-places (c .before .before .before) .2) (lit< tt)
+mul-account-work-3 c = scaled-fits _ 64 _ (account-places (c .before .before .before) .2) (lit< tt)
 
 element-copy-out-account-work-3 : tie.Need-element-copy-out-account-work-3 Inv-loop μ-loop
 element-copy-out-account-work-3 c = account-places (c .before .before .before) .2
@@ -156,7 +156,7 @@ element-set-from-supply : tie.Need-element-set-from-supply Inv-loop μ-loop
 element-set-from-supply c = account-places (c .before .before .before .before .before .before .before .before) .1
 
 mul-after : tie.Need-mul-after Inv-loop μ-loop
-mul-after c = scaled-fits _ 64 24 (account-places (c .before .before .before .before .before .before .before .before) .2) (lit< tt)
+mul-after c = scaled-fits _ 64 _ (account-places (c .before .before .before .before .before .before .before .before) .2) (lit< tt)
 
 element-set-from-after : tie.Need-element-set-from-after Inv-loop μ-loop
 element-set-from-after c = account-places (c .before .before .before .before .before .before .before .before) .2
@@ -176,7 +176,7 @@ cast-m-2 : tie.Need-cast-m-2 Inv-loop μ-loop
 cast-m-2 c = fits-under _ _ _ (market-places (c .before) .2) tt
 
 mul-market-work : tie.Need-mul-market-work Inv-loop μ-loop
-mul-market-work c = scaled-fits _ 3 72 (market-index (c .before)) (lit< tt)
+mul-market-work c = scaled-fits _ 3 _ (market-index (c .before)) (lit< tt)
 
 element-copy-out-market-work : tie.Need-element-copy-out-market-work Inv-loop μ-loop
 element-copy-out-market-work c = market-index (c .before)
@@ -197,7 +197,7 @@ element-set-from-row-2 : tie.Need-element-set-from-row-2 Inv-loop μ-loop
 element-set-from-row-2 c = market-places (c .before .before .before .before .before .before .before .before) .2
 
 mul-after-2 : tie.Need-mul-after-2 Inv-loop μ-loop
-mul-after-2 c = scaled-fits _ 3 72 (market-index (c .before .before .before .before .before .before .before .before)) (lit< tt)
+mul-after-2 c = scaled-fits _ 3 _ (market-index (c .before .before .before .before .before .before .before .before)) (lit< tt)
 
 element-set-from-after-2 : tie.Need-element-set-from-after-2 Inv-loop μ-loop
 element-set-from-after-2 c = market-index (c .before .before .before .before .before .before .before .before)
@@ -211,7 +211,7 @@ cast-k-2 : tie.Need-cast-k-2 Inv-loop μ-loop
 cast-k-2 c = fits-under _ _ _ (entry-ticket (c .before)) tt
 
 mul-t : tie.Need-mul-t Inv-loop μ-loop
-mul-t c = scaled-fits _ 64 24 (entry-ticket (c .before)) (lit< tt)
+mul-t c = scaled-fits _ 64 _ (entry-ticket (c .before)) (lit< tt)
 
 element-copy-out-t : tie.Need-element-copy-out-t Inv-loop μ-loop
 element-copy-out-t c = entry-ticket (c .before)
@@ -226,7 +226,7 @@ cast-n-2 : tie.Need-cast-n-2 Inv-loop μ-loop
 cast-n-2 c = fits-under _ _ _ (entry-index c) tt
 
 mul-entry-work : tie.Need-mul-entry-work Inv-loop μ-loop
-mul-entry-work c = scaled-fits _ 3 72 (entry-index c) (lit< tt)
+mul-entry-work c = scaled-fits _ 3 _ (entry-index c) (lit< tt)
 
 element-copy-out-entry-work : tie.Need-element-copy-out-entry-work Inv-loop μ-loop
 element-copy-out-entry-work c = entry-index c
@@ -235,13 +235,13 @@ entry-work-requires : tie.Need-entry-work-requires Inv-loop μ-loop
 entry-work-requires c κs = let l = loop-of (c .before .before .before .before .before .before) .loop in (entry-ticket (c .before .before .before .before), entry-asks (l .x) (l .ledger) (l .inv .1) _ (entry-ticket (c .before .before .before .before)) _ (c .before .ticket-market .ensures) (c .before .before .before .before .work4 .given .0 .1 .0))
 
 mul-entered : tie.Need-mul-entered Inv-loop μ-loop
-mul-entered c = scaled-fits _ 64 24 (entry-ticket (c .before .before .before .before .before .before .before)) (lit< tt)
+mul-entered c = scaled-fits _ 64 _ (entry-ticket (c .before .before .before .before .before .before .before)) (lit< tt)
 
 element-set-from-entered : tie.Need-element-set-from-entered Inv-loop μ-loop
 element-set-from-entered c = entry-ticket (c .before .before .before .before .before .before .before)
 
 mul-after-3 : tie.Need-mul-after-3 Inv-loop μ-loop
-mul-after-3 c = scaled-fits _ 3 72 (entry-index (c .before .before .before .before)) (lit< tt)
+mul-after-3 c = scaled-fits _ 3 _ (entry-index (c .before .before .before .before)) (lit< tt)
 
 element-set-from-after-3 : tie.Need-element-set-from-after-3 Inv-loop μ-loop
 element-set-from-after-3 c = entry-index (c .before .before .before .before)
@@ -255,7 +255,7 @@ cast-k-3 : tie.Need-cast-k-3 Inv-loop μ-loop
 cast-k-3 c = fits-under _ _ _ (claim-ticket (c .before)) tt
 
 mul-t-2 : tie.Need-mul-t-2 Inv-loop μ-loop
-mul-t-2 c = scaled-fits _ 64 24 (claim-ticket (c .before)) (lit< tt)
+mul-t-2 c = scaled-fits _ 64 _ (claim-ticket (c .before)) (lit< tt)
 
 element-copy-out-t-2 : tie.Need-element-copy-out-t-2 Inv-loop μ-loop
 element-copy-out-t-2 c = claim-ticket (c .before)
@@ -279,7 +279,7 @@ cast-m-3 : tie.Need-cast-m-3 Inv-loop μ-loop
 cast-m-3 c = fits-under _ _ _ (claim-member c) tt
 
 mul-claim : tie.Need-mul-claim Inv-loop μ-loop
-mul-claim c = scaled-fits _ 3 72 (claim-index (c .before)) (lit< tt)
+mul-claim c = scaled-fits _ 3 _ (claim-index (c .before)) (lit< tt)
 
 element-copy-out-claim : tie.Need-element-copy-out-claim Inv-loop μ-loop
 element-copy-out-claim c = claim-index (c .before)
@@ -318,13 +318,13 @@ element-set-from-base : tie.Need-element-set-from-base Inv-loop μ-loop
 element-set-from-base c = claim-market (c .before .before .before .before .before .before .before .before .before .before .before) .1
 
 mul-left : tie.Need-mul-left Inv-loop μ-loop
-mul-left c = scaled-fits _ 64 24 (claim-ticket (c .before .before .before .before .before .before .before .before .before .before .before .before .before .before)) (lit< tt)
+mul-left c = scaled-fits _ 64 _ (claim-ticket (c .before .before .before .before .before .before .before .before .before .before .before .before .before .before)) (lit< tt)
 
 element-set-from-left : tie.Need-element-set-from-left Inv-loop μ-loop
 element-set-from-left c = claim-ticket (c .before .before .before .before .before .before .before .before .before .before .before .before .before .before)
 
 mul-after-4 : tie.Need-mul-after-4 Inv-loop μ-loop
-mul-after-4 c = scaled-fits _ 3 72 (claim-index (c .before .before .before .before .before .before .before .before .before .before .before)) (lit< tt)
+mul-after-4 c = scaled-fits _ 3 _ (claim-index (c .before .before .before .before .before .before .before .before .before .before .before)) (lit< tt)
 
 element-set-from-after-4 : tie.Need-element-set-from-after-4 Inv-loop μ-loop
 element-set-from-after-4 c = claim-index (c .before .before .before .before .before .before .before .before .before .before .before)
