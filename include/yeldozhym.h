@@ -1,6 +1,7 @@
 /*
- * Yeldozhym: a day of call lines worked as a whole, for hosts in C (C11), in C++ (C++11) and in whatever calls C. Link libyeldozhym.a, which
- * `rt staticlib yeldozhym` proves and writes to target/staticlib (x86-64 Linux); it needs memcpy, memmove and memset of the C library.
+ * Yeldozhym: a day of call lines worked as a whole, and the line of a call written from its numbers, for hosts in C (C11), in C++ (C++11) and
+ * in whatever calls C. Link libyeldozhym.a, which `rt staticlib yeldozhym` proves and writes to target/staticlib (x86-64 Linux); it needs
+ * memcpy, memmove and memset of the C library.
  */
 #ifndef YELDOZHYM_H
 #define YELDOZHYM_H
@@ -13,16 +14,19 @@ extern "C" {
 #endif
 
 /* The version of the tree that this header is from: what its file VERSION has. The archive carries none: take both from one tree. */
-#define YELDOZHYM_VERSION "1.0.0"
+#define YELDOZHYM_VERSION "1.1.0"
 
 /* No answer line is longer, its byte 10 included. The header before the first answer line takes YELDOZHYM_HEADER bytes. */
 #define YELDOZHYM_LONGEST_ANSWER 35UL
 #define YELDOZHYM_HEADER 23UL
 
+/* No line of a call is longer, its byte 10 included. Kinds that are added may raise it, so a host names the macro and not its number. */
+#define YELDOZHYM_LONGEST_CALL 68UL
+
 /*
- * The stack that a call may take below the frame that makes it, in bytes. tests/library measures about 24 KB and fails above this figure; the
- * rest is room for other C libraries and processors. No contract can say what a call takes. The measure has in it what memcpy and its like
- * take, and the dynamic linker where it binds them at their first call.
+ * The stack that a call of either function may take below the frame that makes it, in bytes. tests/library measures about 24 KB at
+ * most and fails above this figure; the rest is room for other C libraries and processors. No contract can say what a call takes. The measure
+ * has in it what memcpy and its like take, and the dynamic linker where it binds them at their first call.
  *
  * A thread's stack holds more than this: the thread's own block, its thread-local storage and the frames down to the caller's. So a thread
  * that makes the call and does little else is given YELDOZHYM_STACK + PTHREAD_STACK_MIN bytes, and as many more as the program's
@@ -64,6 +68,34 @@ inline size_t yeldozhym_work_day(const uint8_t *input, size_t input_len, uint8_t
     uint8_t no_input = 0, no_out = 0;
 
     return yeldozhym_day(input_len == 0 ? &no_input : input, input_len, out_len == 0 ? &no_out : out, out_len);
+}
+
+/*
+ * Writes the line of the call that a kind number and count fields are, its byte 10 included, into the out_len bytes at out, from byte number
+ * place on; 0 is the first. Kind numbers, fields and their order are those of document 01, "The ten calls", and docs/FORMAT.md.
+ *
+ * Answers the line's length, byte 10 included, which is never 0; the bytes of out outside the line have not changed. Room for just the line is
+ * enough. Answers 0, and no byte of out has changed, where place is past the end of out or what follows it is too short, which is 21 in
+ * document 02, or where no kind has this number with so many fields. Where place <= out_len and out_len - place >= YELDOZHYM_LONGEST_CALL, 0
+ * means the last alone. Any place up to SIZE_MAX will do. No field is tested: any numbers are written, and the day refuses what is out of
+ * range. This is proved; what is answered is `writtenLength` of crates/call_writer/specs/Writing.antt, the buffer after it `putFrom`.
+ *
+ * NEITHER POINTER MAY BE NULL, EVEN WHERE ITS LENGTH IS 0: hand such pointers to yeldozhym_write_line, below. fields points to count numbers
+ * that may be read, at an address that is aligned for uint32_t. All else is as for yeldozhym_day, with fields for input: what nothing checks,
+ * that nothing is kept between calls, and that threads may call it at the same time.
+ */
+size_t yeldozhym_call_line(uint32_t kind, const uint32_t *fields, size_t count, uint8_t *out, size_t out_len, size_t place);
+
+/* The same, of pointers that may be null where their length is 0, as yeldozhym_work_day has them; no proof covers it, tests/library tries it. */
+#ifndef __cplusplus
+static
+#endif
+inline size_t yeldozhym_write_line(uint32_t kind, const uint32_t *fields, size_t count, uint8_t *out, size_t out_len, size_t place)
+{
+    uint32_t no_field = 0;
+    uint8_t no_out = 0;
+
+    return yeldozhym_call_line(kind, count == 0 ? &no_field : fields, count, out_len == 0 ? &no_out : out, out_len, place);
 }
 
 #ifdef __cplusplus

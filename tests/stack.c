@@ -2,9 +2,9 @@
  * A test of libyeldozhym.a, for tests/library: reads a day from standard input and works it in threads whose stack is memory of this program,
  * painted with a mark, with no bytes lent, with as many as the text takes and with one less. The deepest byte that has changed tells what the call took, from
  * the frame that calls; more than YELDOZHYM_STACK is a failure. The first call is the first that this program makes of memcpy, memmove and memset, so what the
- * dynamic linker takes to bind them is counted. Last the day is worked in some threads at once, each with a buffer of its own and a stack that is no larger than
- * the header says is enough; each must write the same text.
- * Writes the text to standard output, and adds a line with what the call took, in bytes, to the file that it is given.
+ * dynamic linker takes to bind them is counted. A line of a call is measured too, once they are bound. Last the day is worked in some threads at once, each
+ * with a buffer of its own and a stack that is no larger than the header says is enough; each must write the same text.
+ * Writes the text to standard output, and adds a line with what a call took at most, in bytes, to the file that it is given.
  */
 #define _POSIX_C_SOURCE 200809L
 
@@ -46,6 +46,18 @@ static void *work(void *none)
     return none;
 }
 
+/* The thread: one line of a call. */
+static void *write_line(void *none)
+{
+    static const uint32_t fields[] = {UINT32_MAX, UINT32_MAX, UINT32_MAX, UINT32_MAX, UINT32_MAX, UINT32_MAX};
+    static uint8_t line[YELDOZHYM_LONGEST_CALL];
+    uint8_t frame = 0;
+
+    caller = (uintptr_t)&frame;
+    room = yeldozhym_call_line(8, fields, sizeof fields / sizeof *fields, line, sizeof line, 0);
+    return none;
+}
+
 /* One of the threads that work the day at once: one call, when all of them are there. Answers null where another room is told. */
 static void *work_at_once(void *own)
 {
@@ -78,8 +90,8 @@ static void at_once(void)
     free(texts);
 }
 
-/* Works the day on a painted stack, and keeps what the call took where that is more than before. */
-static void measure(volatile uint8_t *stack, uint8_t mark)
+/* Makes a call on a painted stack, and keeps what it took where that is more than before. */
+static void measure(volatile uint8_t *stack, uint8_t mark, void *(*call)(void *))
 {
     pthread_attr_t attributes;
     pthread_t thread;
@@ -90,7 +102,7 @@ static void measure(volatile uint8_t *stack, uint8_t mark)
         stack[i] = mark;
     if (pthread_attr_init(&attributes) != 0 || pthread_attr_setstack(&attributes, (void *)(uintptr_t)stack, STACK) != 0)
         fail("no stack of its own, bytes", STACK);
-    if (pthread_create(&thread, &attributes, work, NULL) != 0 || pthread_join(thread, NULL) != 0)
+    if (pthread_create(&thread, &attributes, call, NULL) != 0 || pthread_join(thread, NULL) != 0)
         fail("no thread on a stack of its own, bytes", STACK);
     pthread_attr_destroy(&attributes);
     while (deepest < STACK && stack[deepest] == mark)
@@ -115,7 +127,7 @@ int main(int argc, char **argv)
     out = calloc(1, 1);
     if (stack == NULL || out == NULL)
         fail("no memory, bytes", STACK);
-    measure(stack, marks[0]);
+    measure(stack, marks[0], work);
 
     size_t text = room;
 
@@ -126,9 +138,12 @@ int main(int argc, char **argv)
     for (size_t i = 0; i < sizeof marks; i++) {
         const size_t lengths[] = {0, text - 1, text};
 
+        measure(stack, marks[i], write_line);
+        if (room == 0)
+            fail("a line of a call is not written, bytes", room);
         for (size_t k = 0; k < sizeof lengths / sizeof *lengths; k++) {
             lent = lengths[k];
-            measure(stack, marks[i]);
+            measure(stack, marks[i], work);
             if (room != text)
                 fail("another room is told, bytes", room);
         }

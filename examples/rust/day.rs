@@ -12,26 +12,7 @@ use std::fs::File;
 use std::io::{self, Read, Write};
 use std::os::fd::AsFd;
 
-mod yeldozhym {
-    #[link(name = "yeldozhym", kind = "static")]
-    extern "C" {
-        fn yeldozhym_day(input: *const u8, input_len: usize, out: *mut u8, out_len: usize)
-            -> usize;
-    }
-
-    /// How many bytes the day's text takes. It is at the start of `out` where it fits; else `out` is as it was.
-    pub fn work_day(input: &[u8], out: &mut [u8]) -> usize {
-        // SAFETY: two slices are not null, have as many bytes as they say, and do not overlap, since one of them is `&mut`.
-        unsafe { yeldozhym_day(input.as_ptr(), input.len(), out.as_mut_ptr(), out.len()) }
-    }
-
-    /// The day's text.
-    pub fn day(input: &[u8]) -> Vec<u8> {
-        let mut out = vec![0; work_day(input, &mut [])];
-        work_day(input, &mut out);
-        out
-    }
-}
+mod yeldozhym;
 
 /// A standard stream as a file: of one that is closed, `Stdin` tells its end and `Stdout` success.
 fn file(stream: impl AsFd) -> io::Result<File> {

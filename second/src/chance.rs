@@ -1,5 +1,5 @@
 //! Drawn numbers, the same ones for the same seed: for the tools that make
-//! traffic and pass it on in pieces.
+//! traffic and cases, and pass traffic on in pieces.
 
 /// A small generator of numbers (splitmix64).
 pub struct Chance {

@@ -7,4 +7,5 @@ pub mod engine;
 pub mod lines;
 
 pub use engine::{Answer, Call, Exchange, Half, Market, Phase, Place, Ticket};
-pub use lines::{next_line, read_call, write_answer, write_call, ANSWER_ROOM, CALL_ROOM, HEADER};
+pub use lines::{call_of, next_line, read_call, write_answer, write_call, write_call_at};
+pub use lines::{ANSWER_ROOM, CALL_ROOM, HEADER};

@@ -1,6 +1,7 @@
 //! The text form of calls and answers: a call line read from bytes into a
 //! call (or into nothing, which the day answers with code 20), a call written
-//! as its line, and an answer line written into a byte buffer.
+//! as its line, also into a lent buffer at a place, and an answer line written
+//! into a byte buffer.
 
 use crate::engine::{Answer, Call};
 
@@ -9,6 +10,9 @@ pub const HEADER: &[u8] = b"line,code,first,second\n";
 
 /// Code of a line that is no call.
 pub const NO_CALL: u8 = 20;
+
+/// Code of a lent buffer that is too short for a line.
+pub const NO_ROOM: u8 = 21;
 
 /// Most bytes of a line before its byte 10.
 pub const LINE_MOST: usize = 80;
@@ -113,28 +117,38 @@ fn read_fields(bytes: &[u8]) -> Fields {
     }
 }
 
-/// The call that well-formed numbers stand for, if any.
+/// The call of a kind and its fields. Nothing if there is no such kind, or if
+/// it has another number of fields.
+#[inline]
+pub fn call_of(kind: u32, fields: &[u32]) -> Option<Call> {
+    match (kind, fields) {
+        (1, &[member, token, amount]) => Some(Call::Deposit { member, token, amount }),
+        (2, &[member, token, amount]) => Some(Call::Withdraw { member, token, amount }),
+        (3, &[ticket, member, market, side, limit, amount]) => {
+            Some(Call::Order { ticket, member, market, side, limit, amount })
+        }
+        (4, &[ticket, member]) => Some(Call::Cancel { ticket, member }),
+        (5, &[market, block, reference, slack, length]) => {
+            Some(Call::Open { market, block, reference, slack, length })
+        }
+        (6, &[ticket]) => Some(Call::Enter { ticket }),
+        (7, &[market, block]) => Some(Call::Match { market, block }),
+        (8, &[market, member, block, side, base, bound]) => {
+            Some(Call::Bid { market, member, block, side, base, bound })
+        }
+        (9, &[market, block]) => Some(Call::Settle { market, block }),
+        (10, &[ticket]) => Some(Call::Claim { ticket }),
+        _ => None,
+    }
+}
+
+/// The call that the numbers of a line stand for, if any.
 #[inline]
 fn build(fields: &Fields) -> Option<Call> {
     if !fields.good || fields.stop > LINE_MOST {
         return None;
     }
-    let [kind, a, b, c, d, e, f] = fields.values;
-    match (kind, fields.count) {
-        (1, 4) => Some(Call::Deposit { member: a, token: b, amount: c }),
-        (2, 4) => Some(Call::Withdraw { member: a, token: b, amount: c }),
-        (3, 7) => {
-            Some(Call::Order { ticket: a, member: b, market: c, side: d, limit: e, amount: f })
-        }
-        (4, 3) => Some(Call::Cancel { ticket: a, member: b }),
-        (5, 6) => Some(Call::Open { market: a, block: b, reference: c, slack: d, length: e }),
-        (6, 2) => Some(Call::Enter { ticket: a }),
-        (7, 3) => Some(Call::Match { market: a, block: b }),
-        (8, 7) => Some(Call::Bid { market: a, member: b, block: c, side: d, base: e, bound: f }),
-        (9, 3) => Some(Call::Settle { market: a, block: b }),
-        (10, 2) => Some(Call::Claim { ticket: a }),
-        _ => None,
-    }
+    call_of(fields.values[0], fields.values.get(1..fields.count)?)
 }
 
 /// Reads a whole line, given without its byte 10.
@@ -261,9 +275,26 @@ pub fn write_call(room: &mut [u8; CALL_ROOM], call: Call) -> usize {
     at + 1
 }
 
+/// Writes a call line with its byte 10 into a lent buffer, from a place on:
+/// code 0 and the line's length. Where the buffer has no room for it there,
+/// no byte changes, and the code is 21 and the length 0.
+pub fn write_call_at(out: &mut [u8], place: u64, call: Call) -> (u8, usize) {
+    let mut line = [0; CALL_ROOM];
+    let len = write_call(&mut line, call);
+    let rest = usize::try_from(place).ok().and_then(|place| out.get_mut(place..));
+    match rest.and_then(|rest| rest.get_mut(..len)) {
+        Some(room) => {
+            room.copy_from_slice(&line[..len]);
+            (0, len)
+        }
+        None => (NO_ROOM, 0),
+    }
+}
+
 #[cfg(test)]
 mod tests {
     use super::*;
+    use crate::chance::Chance;
 
     fn no_call(line: &[u8]) {
         assert_eq!(read_call(line), None, "{:?}", String::from_utf8_lossy(line));
@@ -272,10 +303,10 @@ mod tests {
         assert_eq!(next_line(&ended), Some((line.len() + 1, None)));
     }
 
-    #[test]
-    fn calls_of_every_kind() {
+    /// Calls of every kind, with numbers of mixed lengths.
+    fn every_kind() -> [Call; 11] {
         let most = u32::MAX;
-        let calls = [
+        [
             Call::Deposit { member: 0, token: 1, amount: most },
             Call::Withdraw { member: 2, token: 3, amount: 4 },
             Call::Order { ticket: 1, member: 2, market: 3, side: 4, limit: 5, amount: 6 },
@@ -294,8 +325,12 @@ mod tests {
             Call::Bid { market: 6, member: 5, block: 4, side: 3, base: 2, bound: 1 },
             Call::Settle { market: 12345678, block: 123456789 },
             Call::Claim { ticket: 1234567890 },
-        ];
-        for call in calls {
+        ]
+    }
+
+    #[test]
+    fn calls_of_every_kind() {
+        for call in every_kind() {
             let mut room = [0; CALL_ROOM];
             let len = write_call(&mut room, call);
             assert_eq!(room[len - 1], b'\n');
@@ -448,6 +483,117 @@ mod tests {
             let len = write_answer(&mut room, number, Answer { code, first, second });
             let text = format!("{number},{code},{first},{second}\n");
             assert_eq!(&room[..len], text.as_bytes());
+        }
+    }
+
+    /// Writes a call into a buffer of bytes 35 at a place: code, length and
+    /// the buffer after it.
+    fn written(size: usize, place: u64, call: Call) -> (u8, usize, Vec<u8>) {
+        let mut out = vec![b'#'; size];
+        let (code, len) = write_call_at(&mut out, place, call);
+        (code, len, out)
+    }
+
+    #[test]
+    fn call_lines_at_a_place() {
+        let enter = Call::Enter { ticket: 0 };
+        let claim = Call::Claim { ticket: 63 };
+        for (size, place, call, after) in [
+            (4, 0, enter, "6,0\n"),
+            (5, 0, enter, "6,0\n#"),
+            (6, 2, enter, "##6,0\n"),
+            (8, 2, claim, "##10,63\n"),
+        ] {
+            let len = after.trim_matches('#').len();
+            assert_eq!(written(size, place, call), (0, len, after.as_bytes().to_vec()));
+        }
+        let longest = call_of(8, &[u32::MAX; 6]).unwrap();
+        let text = b"8,4294967295,4294967295,4294967295,4294967295,4294967295,4294967295\n";
+        assert_eq!(written(68, 0, longest), (0, 68, text.to_vec()));
+        for (size, place, call) in [
+            (3, 0, enter),
+            (6, 3, enter),
+            (6, 6, enter),
+            (6, 7, enter),
+            (0, 0, enter),
+            (6, u64::MAX, enter),
+            (67, 0, longest),
+        ] {
+            assert_eq!(written(size, place, call), (21, 0, vec![b'#'; size]));
+        }
+        assert_eq!(read_call(b"6,0"), Some(enter));
+        assert_eq!(next_line(b"6,0\nxyz"), Some((4, Some(enter))));
+        no_call(b"6,00");
+    }
+
+    #[test]
+    fn call_lines_at_every_place() {
+        for call in every_kind() {
+            let mut room = [0; CALL_ROOM];
+            let len = write_call(&mut room, call);
+            for size in 0..len + 4 {
+                let untouched = vec![b'#'; size];
+                for place in 0..=size + 2 {
+                    let mut after = untouched.clone();
+                    let told = if place + len <= size {
+                        after[place..place + len].copy_from_slice(&room[..len]);
+                        (0, len, after)
+                    } else {
+                        (21, 0, after)
+                    };
+                    assert_eq!(written(size, place as u64, call), told, "{call:?} {size} {place}");
+                }
+                // Places after which the sum wraps, or of which the low bits have room.
+                for back in 0..100 {
+                    let far = written(size, u64::MAX - back, call);
+                    assert_eq!(far, (21, 0, untouched.clone()));
+                }
+                for bit in [8, 16, 31, 32, 33, 63] {
+                    assert_eq!(written(size, 1 << bit, call), (21, 0, untouched.clone()));
+                }
+            }
+        }
+    }
+
+    #[test]
+    fn lines_read_and_written_again() {
+        let mut chance = Chance::new(1);
+        let mut calls = [0; 11];
+        for _ in 0..200_000 {
+            let kind = chance.between(1, 10);
+            let mut line = kind.to_string();
+            for _ in 0..FIELDS[kind as usize] {
+                line += &format!(",{}", chance.any_size(5_000_000_000) - 1);
+            }
+            let mut line = line.into_bytes();
+            if chance.once_in(2) {
+                let place = chance.below(line.len() as u64) as usize;
+                line[place] = chance.pick(b"0123456789,");
+            }
+            if let Some(call) = read_call(&line) {
+                line.push(b'\n');
+                assert_eq!(written(line.len(), 0, call), (0, line.len(), line));
+                calls[call.kind()] += 1;
+            }
+        }
+        assert!(calls[1..].iter().all(|&count| count > 1_000), "{calls:?}");
+    }
+
+    #[test]
+    fn calls_of_plain_numbers() {
+        let fields = [0, 1, 22, 333, 4444, 55555, 666666, 7777777, u32::MAX];
+        for kind in (0..300).chain([1 << 16 | 6, 1 << 31 | 6, u32::MAX]) {
+            for count in 0..=fields.len() {
+                let call = call_of(kind, &fields[..count]);
+                let right = (1..=10).contains(&kind) && FIELDS[kind as usize] == count;
+                assert_eq!(call.is_some(), right, "{kind} {count}");
+                if let Some(call) = call {
+                    let numbers: Vec<String> =
+                        [kind].iter().chain(&fields[..count]).map(u32::to_string).collect();
+                    let line = numbers.join(",") + "\n";
+                    assert_eq!(written(line.len(), 0, call), (0, line.len(), line.into_bytes()));
+                }
+            }
         }
     }
 }

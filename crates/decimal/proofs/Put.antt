@@ -1,13 +1,15 @@
--- Laws of `putAt`, `putInto` and `putCount`.
+-- Laws of `putAt`, `putInto`, `putCount` and `putFrom`.
 use mathlib.Core.Path.{_≡_, refl, sym, ap, _∙_}
 use Prim.Native.Nat.{ℕ, zero, suc, _+_, _-_, _≤_, _<_}
 use native.Mathlib.Omega.{arith}
 use native.Mathlib.Nat.{le-of-suc-le-suc, not-suc-le-zero, zero-add, add-assoc}
 use mathlib.Core.List.{List, [], _∷_, _++_, append-assoc, append-nil}
-use lib.ListN.{length, take, drop, set, length-append, length-drop, drop-of-length-le}
+use lib.ListN.{length, take, drop, set, length-append, length-drop, drop-of-length-le, take-append-drop}
 use lib.Seq.{take-all, drop-cons, set-at, length-take-le, drop-drop, take-at, drop-append-add, sets, sets-eq}
+use lib.Dec.{leb}
 use borrow.Author.Tests.{le-leb, lt-leb}
-use Rattle.decimal.specs.Buffer.{putAt, putInto, putCount}
+use Rattle.units.proofs.Cases.{by-test}
+use Rattle.decimal.specs.Buffer.{putAt, putInto, putCount, putFrom}
 
 module _ (out text : List ℕ) where
   pub put-start : putAt out 0 text ≡ text ++ drop (length text) out
@@ -32,6 +34,14 @@ module _ (out text : List ℕ) where
   pub count-short : length out < length text → putCount out text ≡ 0
   unfolding putCount
   count-short h = rw (lt-leb _ _ h)
+
+  pub from-fits : (at : ℕ) → at + length text ≤ length out → putFrom out at text ≡ putAt out at text
+  unfolding putFrom
+  from-fits at h = rw (le-leb _ _ h)
+
+  pub from-short : (at : ℕ) → length out < at + length text → putFrom out at text ≡ out
+  unfolding putFrom
+  from-short at h = rw (lt-leb _ _ h)
 
 -- a store at i, and what stands from i on
 drop-store : (l : List ℕ) (i a : ℕ) → i < length l → drop i (set l i a) ≡ a ∷ drop (suc i) l
@@ -79,8 +89,14 @@ put-field xs d at e h =
     ∙ ap (λ (l : List ℕ). take at xs ++ (d ++ (e ∷ l))) tail
     ∙ ap (λ (l : List ℕ). take at xs ++ l) (sym (append-assoc d (e ∷ []) _))
 
+pub put-length : (xs t : List ℕ) (at : ℕ) → at + length t ≤ length xs → length (putAt xs at t) ≡ length xs
+unfolding putAt
+put-length xs t at h =
+    let rest = drop (at + length t) xs in
+    omega (arith, length-append (take at xs) (t ++ rest), length-take-le at xs (omega arith), length-append t rest, length-drop (at + length t) xs)
+
 -- text put after text is the two put at once
-put-put : (xs a b : List ℕ) (at : ℕ) → at + length a + length b ≤ length xs
+pub put-put : (xs a b : List ℕ) (at : ℕ) → at + length a + length b ≤ length xs
     → putAt (putAt xs at a) (at + length a) b ≡ putAt xs at (a ++ b)
 unfolding putAt
 put-put xs a b at h =
@@ -104,6 +120,17 @@ put-bytes xs bytes at h = sets-eq bytes xs at h ∙ append-assoc (take at xs) by
 pub record Run (xs : List ℕ) (at : ℕ) (t y : List ℕ) (p : ℕ) : Type 0 where
   pub text : y ≡ putAt xs at t
   pub place : p ≡ at + length t
+
+pub run-none : (xs : List ℕ) (at : ℕ) → Run xs at [] xs at
+unfolding putAt
+run-none xs at =
+    let same : at + 0 ≡ at = omega arith in
+    record { text = sym (ap (λ (k : ℕ). take at xs ++ drop k xs) same ∙ take-append-drop at xs); place = sym same }
+
+-- no text changes nothing
+pub from-nothing : (out : List ℕ) (at : ℕ) → putFrom out at [] ≡ out
+unfolding putFrom
+from-nothing out at = by-test (leb (at + 0) (length out)) (λ t. rw t (sym (run-none out at .text))) (λ t. rw t)
 
 pub run-one : (xs : List ℕ) (at : ℕ) (u y : List ℕ) (p : ℕ) → y ≡ putAt xs at u → p ≡ at + length u → Run xs at u y p
 run-one xs at u y p e l = record { text = e; place = l }

@@ -16,3 +16,7 @@ putInto out text = cond (leb (length text) (length out)) (putAt out 0 text) out
 -- how many bytes that takes, 0 where out is too short
 unfoldable pub putCount : List ℕ → List ℕ → ℕ
 putCount out text = cond (leb (length text) (length out)) (length text) 0
+
+-- text from a place on, where what follows the place is long enough: "Bytes outside the line stay"; else, as 21 has it, "no byte changed"
+unfoldable pub putFrom : List ℕ → ℕ → List ℕ → List ℕ
+putFrom out at text = cond (leb (at + length text) (length out)) (putAt out at text) out

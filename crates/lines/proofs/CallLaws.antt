@@ -1,11 +1,12 @@
 -- Laws of call lines: the call of a kind and its fields, and a line between two places of an input.
 use mathlib.Core.Path.{_≡_, refl, sym, ap, _∙_}
 use mathlib.Core.Bool.{Bool, true, false, cond}
-use mathlib.Core.List.{List, [], _∷_}
+use mathlib.Core.List.{List, [], _∷_, _++_}
 use mathlib.Core.Option.{Option, some, none}
 use Prim.Native.Nat.{ℕ, zero, suc, _+_, _-_, _≤_, _<_}
 use native.Mathlib.Numerals.{add-one}
 use native.Mathlib.Omega.{arith}
+use native.Mathlib.Nat.{le-of-suc-le-suc, not-suc-le-zero}
 use lib.ListN.{length, getD, take, drop, drop-of-length-le}
 use lib.Seq.{drop-cons, drop-drop, take-all}
 use lib.Dec.{leb, eqb}
@@ -106,7 +107,7 @@ no-count (suc (suc (suc (suc (suc (suc (suc (suc n)))))))) l q h2 h3 h4 h6 h7 =
     ∙ ap callOf (sym (take-all (suc (suc (suc (suc (suc (suc (suc (suc n)))))))) l (omega (arith, q))))
 
 -- nor more numbers than the field reader keeps
-no-many : (l : List ℕ) → 8 < length l → NoCall ≡ callOf l
+pub no-many : (l : List ℕ) → 8 < length l → NoCall ≡ callOf l
 no-many [] q = absurd (omega (arith, q))
 no-many (a ∷ []) q = absurd (omega (arith, q))
 no-many (a ∷ (b ∷ [])) q = absurd (omega (arith, q))
@@ -136,6 +137,26 @@ end-next bytes i h e = rw (drop-cons bytes i 0 h, ne-eqb _ _ e, add-one i) (omeg
 
 pub end-past : (bytes : List ℕ) (i : ℕ) → length bytes ≤ i → i ≡ i + length (lineIn (drop i bytes))
 end-past bytes i h = rw (drop-of-length-le bytes h) (omega arith)
+
+-- ---- where a line lies
+
+pub line-within : (bs : List ℕ) → length (lineIn bs) ≤ length bs
+line-within [] = omega arith
+line-within (b ∷ bs) = by-test (eqb b 10) (λ e. rw e (omega arith)) (λ e. rw e (omega (arith, line-within bs)))
+
+pub line-front : (bs : List ℕ) → take (length (lineIn bs)) bs ≡ lineIn bs
+line-front [] = refl
+line-front (b ∷ bs) = by-test (eqb b 10) (λ e. rw e) (λ e. rw e (ap (λ (l : List ℕ). b ∷ l) (line-front bs)))
+
+ten-next : (bs : List ℕ) → length (lineIn bs) < length bs → take (suc (length (lineIn bs))) bs ≡ lineIn bs ++ (10 ∷ [])
+ten-next [] h = absurd (not-suc-le-zero h)
+ten-next (b ∷ bs) h =
+    by-test (eqb b 10)
+    (λ e. rw e (ap (λ (k : ℕ). k ∷ []) (eqb-true b 10 e)))
+    (λ e. rw e (ap (λ (l : List ℕ). b ∷ l) (ten-next bs (le-of-suc-le-suc (rw e at h)))))
+
+pub line-ten : (bs : List ℕ) → length (lineIn bs) < length bs → take (length (lineIn bs) + 1) bs ≡ lineIn bs ++ (10 ∷ [])
+line-ten bs h = rw add-one (ten-next bs h)
 
 -- ---- a line and its field bytes
 
@@ -232,7 +253,7 @@ line-read bytes from end f r e n h s q =
 in-line : (l : List ℕ) → length (fieldBytes l) ≤ length (lineIn l)
 in-line l = omega (arith, within l)
 
-whole-line : (l : List ℕ) → length l ≤ length (lineIn l) → lineIn l ≡ l
+pub whole-line : (l : List ℕ) → length l ≤ length (lineIn l) → lineIn l ≡ l
 whole-line [] h = refl
 whole-line (b ∷ l) h =
     by-test (eqb b 10)

@@ -20,8 +20,9 @@ use Rattle.model.specs.declared.call.Call.{Call}
 use Rattle.model.specs.declared.call.Call.the-variants.{Deposit, Withdraw, Order, Cancel, Open, Enter, Match, Bid, Settle, Claim}
 use Rattle.model.specs.Kinds.{Taking, Kind, fromFields, kinds, numbersOfCall}
 use Rattle.lines.specs.declared.call.Reading.the-variants.{Read, NoCall}
-use Rattle.lines.specs.CallLines.{reading, readIn, ofKind, callOf, callOfNumbers, readingOf}
+use Rattle.lines.specs.CallLines.{reading, readIn, ofKind, callOf, callOfNumbers, readingOf, lineIn, lineAt}
 use Rattle.lines.specs.CallText.{joinParts, lineOfNumbers, lineOfCall, Small, CallRound, LineRound}
+use Rattle.lines.proofs.CallLaws.{whole-line, ten-inside}
 use Rattle.decimal.proofs.Digits.{digits-bound, lead, lead-none, lead-step, digits-step}
 
 and-left : (x y : Bool) → (x && y) ≡ true → x ≡ true
@@ -232,28 +233,29 @@ numbers-read n [] s = rw (partsOf-one (digits n) (digits-all n), number-read n (
 numbers-read n (m ∷ ns) s =
     rw (partsOf-more (digits n) (joinParts (map digits (m ∷ ns))) (digits-all n), number-read n (s .0), numbers-read m ns (s .1))
 
-numbers-length : (n : ℕ) (ns : List ℕ) → Small (n ∷ ns) → length (joinParts (map digits (n ∷ ns))) ≤ 10 + 11 * length ns
-numbers-length n [] s = omega (arith, digits-bound n (omega (arith, s .0)))
+-- a comma and ten digits at most for each number after the first
+pub numbers-length : (n : ℕ) (ns : List ℕ) → Small ns → length (joinParts (map digits (n ∷ ns))) ≤ length (digits n) + 11 * length ns
+numbers-length n [] s = omega arith
 numbers-length n (m ∷ ns) s =
     omega
-    (arith, digits-bound n (omega (arith, s .0)), numbers-length m ns (s .1), length-append (digits n) (44 ∷ joinParts (map digits (m ∷ ns))))
+    (arith, digits-bound m (omega (arith, s .0)), numbers-length m ns (s .1), length-append (digits n) (44 ∷ joinParts (map digits (m ∷ ns))))
 
 -- what the writer makes of numbers reads as those numbers
-written-read : (n : ℕ) (ns : List ℕ) → Small (n ∷ ns) → length ns ≤ 6 → lineNumbers (lineOfNumbers (n ∷ ns)) ≡ some (n ∷ ns)
+numbers-reread : (n : ℕ) (ns : List ℕ) → Small (n ∷ ns) → length ns ≤ 6 → lineNumbers (lineOfNumbers (n ∷ ns)) ≡ some (n ∷ ns)
 unfolding lineOfNumbers
-written-read n ns s h = line-short _ (omega (arith, numbers-length n ns s)) ∙ numbers-read n ns s
+numbers-reread n ns s h = line-short _ (omega (arith, digits-bound n (omega (arith, s .0)), numbers-length n ns (s .1))) ∙ numbers-read n ns s
 
 -- ---- calls
 
 -- the numbers of a call make it again, and are few
-record Remade (c : Call) : Type 0 where
+pub record Remade (c : Call) : Type 0 where
   pub number : ℕ
   pub fields : List ℕ
   pub is : numbersOfCall c ≡ number ∷ fields
   pub few : length fields ≤ 6
   pub call : ofKind number fields ≡ Read c
 
-remade : (c : Call) → Remade c
+pub remade : (c : Call) → Remade c
 unfolding ofKind
 remade (Deposit a b c) = record { number = _; fields = _; is = refl; few = omega arith; call = refl }
 remade (Withdraw a b c) = record { number = _; fields = _; is = refl; few = omega arith; call = refl }
@@ -272,11 +274,20 @@ unfolding lineOfCall readingOf
 call-round c s =
     let r = remade c in
     ap (λ (ns : List ℕ). callOfNumbers (lineNumbers (lineOfNumbers ns))) (r .is)
-    ∙ ap callOfNumbers (written-read (r .number) (r .fields) (subst Small (r .is) s) (r .few))
+    ∙ ap callOfNumbers (numbers-reread (r .number) (r .fields) (subst Small (r .is) s) (r .few))
     ∙ r .call
 
-no-read : (c : Call) → NoCall ≡ Read c → ⊥
+pub no-read : (c : Call) → NoCall ≡ Read c → ⊥
 no-read c e = let z : _≡_ {A = ℕ} 0 1 = cc in omega arith
+
+-- a call's line has no byte 10, since it is read
+pub one-line : (c : Call) → Small (numbersOfCall c) → lineIn (lineOfCall c) ≡ lineOfCall c
+unfolding lineAt
+one-line c s =
+    let l = lineOfCall c in
+    by-order (length (lineIn l)) (length l)
+    (λ h. absurd (no-read c (ten-inside l (lineAt l 0) refl (omega arith) ∙ call-round c s)))
+    (λ h. whole-line l h)
 
 -- the fields after these make a call whose numbers are these and the fields
 abbrev Writes : (n : ℕ) → Taking n → List ℕ → Type 0

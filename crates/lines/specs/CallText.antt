@@ -1,4 +1,4 @@
--- The line that a call is written as, without its byte 10.
+-- The line that a call is written as, without its byte 10 and with it.
 use Prim.Native.Nat.{ℕ, _≤_}
 use mathlib.Core.Path.{_≡_}
 use mathlib.Core.List.{List, [], _∷_, _++_, map}
@@ -20,6 +20,10 @@ lineOfNumbers ns = joinParts (map digits ns)
 
 unfoldable pub lineOfCall : Call → List ℕ
 lineOfCall c = lineOfNumbers (numbersOfCall c)
+
+-- "one call in, its line with byte 10 out"
+abbrev pub callLine : Call → List ℕ
+callLine c = lineOfCall c ++ (10 ∷ [])
 
 -- ---- written and read
 

@@ -136,7 +136,7 @@ fn with_6(kind: u32, a: u32, b: u32, c: u32, d: u32, e: u32, f: u32) -> Reading
 }
 
 // The call of the numbers that the field reader found. It looks at neither the line's length nor where the reader stopped: read_line does.
-fn call_of(f: Fields) -> Reading
+pub fn call_of(f: Fields) -> Reading
     ensures { λ r. ⌜ r ≡ callOf (take (f .count) (f .values)) ⌝ }
 {
     let v = f.values;

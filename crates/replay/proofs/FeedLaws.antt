@@ -20,7 +20,8 @@ use Rattle.replay.specs.Lines.{outcomeOf, lineOutcome, lineText}
 use Rattle.replay.specs.Days.{lastLine}
 use Rattle.lines.specs.Kept.{keptBytes}
 use Rattle.replay.specs.Pieces.{Stream, after, textOf, lastBytes, streamOf, Advanced, firstLine, FedBy}
-use Rattle.replay.proofs.StreamLaws.{after-append, text-append, begun, line-after, line-silent, ended-after, ended-text, line-front, line-ten, over-after, over-text}
+use Rattle.lines.proofs.CallLaws.{line-front, line-ten}
+use Rattle.replay.proofs.StreamLaws.{after-append, text-append, begun, line-after, line-silent, ended-after, ended-text, over-after, over-text}
 
 -- i bytes of the input are taken, s is the stream after them, and the first at bytes of the buffer are what they made the program write
 pub record SoFar (s₀ : Stream) (input out₀ : List ℕ) (i : ℕ) (s : Stream) (at : ℕ) (out : List ℕ) : Type 0 where

@@ -4,8 +4,10 @@ pub mod StreamLaws
 pub mod FeedLaws
 pub mod DayText
 pub mod LastLine
+pub mod Rewriting
 pub mod Computing
 pub mod Examples
 pub mod StreamExamples
 pub mod LineExamples
 pub mod FeedExamples
+pub mod RewritingExamples

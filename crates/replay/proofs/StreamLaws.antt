@@ -2,14 +2,12 @@
 use mathlib.Core.Path.{_≡_, refl, sym, ap, _∙_}
 use mathlib.Core.Bool.{true, false}
 use mathlib.Core.List.{List, [], _∷_, _++_, append-assoc, append-nil}
-use Prim.Native.Nat.{ℕ, suc, _+_, _≤_, _<_}
+use Prim.Native.Nat.{ℕ, _+_, _≤_, _<_}
 use native.Mathlib.Omega.{arith}
-use native.Mathlib.Nat.{not-suc-le-zero, le-of-suc-le-suc}
-use native.Mathlib.Numerals.{add-one}
 use lib.Dec.{ltb, eqb}
 use lib.ListN.{length, take, drop, length-drop}
 use lib.Seq.{take-all, length-take-le, take-add}
-use borrow.Author.Tests.{lt-ltb, le-ltb, eqb-true}
+use borrow.Author.Tests.{lt-ltb, le-ltb}
 use Rattle.units.proofs.Cases.{by-test, by-order}
 use Rattle.model.specs.declared.state.Exchange.{Exchange}
 use Rattle.model.specs.declared.answer.Outcome.{Outcome}
@@ -17,6 +15,7 @@ use Rattle.model.specs.Answers.{answerLine}
 use Rattle.model.specs.Run.{Reachable}
 use Rattle.fields.proofs.LineLaws.{line-long}
 use Rattle.lines.specs.CallLines.{readingOf, lineIn, lineAt}
+use Rattle.lines.proofs.CallLaws.{line-within}
 use Rattle.lines.specs.Kept.{keptBytes}
 use Rattle.lines.proofs.KeptLaws.{kept}
 use Rattle.lines.specs.declared.call.LineAt.{LineAt}
@@ -142,24 +141,6 @@ module _ (x : Exchange) (n : ℕ) (h : n < lastLine) (bs p : List ℕ) where
       ∙ end-text x n (p ++ lineIn bs) h 10 refl
 
 -- ---- where the line lies
-
-pub line-within : (bs : List ℕ) → length (lineIn bs) ≤ length bs
-line-within [] = omega arith
-line-within (b ∷ bs) = by-test (eqb b 10) (λ e. rw e (omega arith)) (λ e. rw e (omega (arith, line-within bs)))
-
-pub line-front : (bs : List ℕ) → take (length (lineIn bs)) bs ≡ lineIn bs
-line-front [] = refl
-line-front (b ∷ bs) = by-test (eqb b 10) (λ e. rw e) (λ e. rw e (ap (λ (l : List ℕ). b ∷ l) (line-front bs)))
-
-ten-next : (bs : List ℕ) → length (lineIn bs) < length bs → take (suc (length (lineIn bs))) bs ≡ lineIn bs ++ (10 ∷ [])
-ten-next [] h = absurd (not-suc-le-zero h)
-ten-next (b ∷ bs) h =
-    by-test (eqb b 10)
-    (λ e. rw e (ap (λ (k : ℕ). k ∷ []) (eqb-true b 10 e)))
-    (λ e. rw e (ap (λ (l : List ℕ). b ∷ l) (ten-next bs (le-of-suc-le-suc (rw e at h)))))
-
-pub line-ten : (bs : List ℕ) → length (lineIn bs) < length bs → take (length (lineIn bs) + 1) bs ≡ lineIn bs ++ (10 ∷ [])
-line-ten bs h = rw add-one (ten-next bs h)
 
 -- what reading the line at a place answers
 module _ (l : LineAt) (bytes : List ℕ) (from : ℕ) (is : l ≡ lineAt bytes from) where

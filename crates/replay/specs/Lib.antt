@@ -3,7 +3,9 @@ pub mod LineCodes
 pub mod Days
 pub mod Pieces
 pub mod LastLine
+pub mod Rewriting
 pub mod Examples
 pub mod StreamExamples
 pub mod LineExamples
 pub mod FeedExamples
+pub mod RewritingExamples

@@ -17,7 +17,8 @@ use Rattle.replay.specs.declared.day.Fed.{Fed}
 use Rattle.replay.specs.Days.{lastLine}
 use Rattle.replay.specs.Lines.{lineOutcome, lineText}
 use Rattle.replay.specs.Pieces.{textOf, streamOf}
-use Rattle.replay.proofs.StreamLaws.{begun, line-within}
+use Rattle.lines.proofs.CallLaws.{line-within}
+use Rattle.replay.proofs.StreamLaws.{begun}
 use Rattle.replay.proofs.FeedLaws.{line-alone, ten-among, alone-after, alone-count, alone-written}
 use Rattle.in_place.specs.Loop.{WholeLines}
 use Rattle.stream.specs.Lines.{LineEnded}

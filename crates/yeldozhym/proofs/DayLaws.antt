@@ -16,11 +16,12 @@ use Rattle.model.specs.Run.{Reachable, at-first}
 use Rattle.lines.specs.AnswerText.{header}
 use Rattle.lines.specs.CallLines.{lineIn}
 use Rattle.lines.specs.Kept.{keptBytes}
+use Rattle.lines.proofs.CallLaws.{line-within}
 use Rattle.replay.specs.declared.day.Day.{Day}
 use Rattle.replay.specs.declared.day.Fed.{Fed}
 use Rattle.replay.specs.Days.{dayOf, lastLine}
 use Rattle.replay.specs.Pieces.{Stream, start, nextByte, byteText, after, textOf, lastBytes, endText, streamOf, Advanced, firstLine, FedBy}
-use Rattle.replay.proofs.StreamLaws.{text-append, line-within, over-text, next-piece, after-reachable}
+use Rattle.replay.proofs.StreamLaws.{text-append, over-text, next-piece, after-reachable}
 use Rattle.replay.proofs.DayText.{any-cutting}
 use Rattle.replay.proofs.FeedLaws.{some-begun}
 
@@ -172,7 +173,3 @@ module _ (xs t out : List ℕ) (at : ℕ) (run : Run xs 0 t out at) (d : Day) (b
     pub fed-run : Run xs 0 (t ++ textOf (streamOf d) (take (r .used) bs)) (take at out ++ (last ++ drop (length out - at) (drop at out))) (at + r .wrote)
     unfolding text
     fed-run = run-more xs 0 t out text _ at (at + r .wrote) run (omega (arith, run .place, a .count, room)) back (ap (λ (k : ℕ). at + k) (a .count))
-
-pub put-length : (xs t : List ℕ) → length t ≤ length xs → length (putAt xs 0 t) ≡ length xs
-unfolding putAt
-put-length xs t h = omega (arith, length-append t (drop (0 + length t) xs), length-drop (0 + length t) xs)

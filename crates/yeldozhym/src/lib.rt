@@ -1,10 +1,14 @@
-// A whole day for hosts in C and in Rust: bytes in, bytes out.
+// What hosts in C and in Rust call: a whole day, bytes in and bytes out, and a call's line written.
 ghost use mathlib.Core.Path.{_≡_};
+ghost use mathlib.Core.List.{_∷_};
 ghost use Prim.Native.Nat.{_≤_};
 ghost use lib.ListN.{length};
-ghost use Rattle.decimal.specs.Buffer.{putAt, putInto};
+ghost use Rattle.decimal.specs.Buffer.{putAt, putInto, putFrom};
 ghost use Rattle.lines.specs.AnswerText.{header as AnswerText·header};
+ghost use Rattle.lines.specs.CallLines.{callOf};
+ghost use Rattle.call_writer.specs.Writing.{writtenOf, writtenLength, lineOfReading};
 ghost use Rattle.replay.specs.Days.{dayOf};
+use call_writer::write_call_of_fields;
 use lines::answer::header;
 use replay::day::fresh_day;
 use stream::feed;
@@ -26,6 +30,21 @@ pub extern "C" fn yeldozhym_day(input: &[u8], out: &mut [u8]) -> usize
         write_day(input, out);
     }
     room
+}
+
+// Writes the line of the call that a kind number and fields are, with its byte 10, into out from a place on. Answers its length; where it does not
+// fit there (21), or they are no call's (20), 0, and out is unchanged.
+#[no_mangle]
+pub extern "C" fn yeldozhym_call_line(
+    kind: u32,
+    fields: &[u32],
+    out: &mut [u8],
+    place: usize,
+) -> usize
+    ensures { λ r. ⌜ r ≡ writtenLength (writtenOf (length (now (out .entry))) place (lineOfReading (callOf («kind» ∷ now (fields .entry))))) ⌝ }
+    ensures { λ r. ⌜ now (out .exit) ≡ putFrom (now (out .entry)) place (lineOfReading (callOf («kind» ∷ now (fields .entry)))) ⌝ }
+{
+    write_call_of_fields(kind, fields, out, place)
 }
 
 // The length of the day's text. The answers go to a buffer that is used again for each part of them.

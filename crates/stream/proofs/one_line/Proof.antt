@@ -19,7 +19,8 @@ use Rattle.replay.specs.declared.day.Day.{Day}
 use Rattle.replay.specs.Lines.{lineOutcome, lineText}
 use Rattle.replay.specs.Pieces.{streamOf}
 use Rattle.replay.proofs.LineRun.{some-text, count-none, count-some}
-use Rattle.replay.proofs.StreamLaws.{begun, same-outcome, same-text, line-front, line-within}
+use Rattle.lines.proofs.CallLaws.{line-front, line-within}
+use Rattle.replay.proofs.StreamLaws.{begun, same-outcome, same-text}
 use Rattle.replay.proofs.FeedLaws.{line-goes-on, line-waits, line-ends}
 use Rattle.stream.proofs.one_line.Statement.{statement}
 use Rattle.stream.proofs.one_line.Tie as tie

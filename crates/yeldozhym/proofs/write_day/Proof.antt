@@ -7,12 +7,12 @@ use borrow.Author.Needs.{needs}
 use borrow.Rule.Slice.PartMut.{putMid}
 use lib.ListN.{length, take, drop, length-drop, length-append}
 use Rattle.decimal.specs.Buffer.{putAt}
-use Rattle.decimal.proofs.Put.{Run, run-one, part-all}
+use Rattle.decimal.proofs.Put.{put-length, Run, run-one, part-all}
 use Rattle.lines.specs.AnswerText.{header}
 use Rattle.replay.specs.Pieces.{streamOf, textOf, endText, lastBytes}
 use Rattle.replay.specs.Days.{dayOf}
 use Rattle.yeldozhym.proofs.Lengths.{rooms-bounded}
-use Rattle.yeldozhym.proofs.DayLaws.{front, rest, Worked, worked-start, worked-reachable, worked-room, worked-all, worked-more, more-front, first-fits, last-line, takes-some, end-is, end-count, fed-run, put-length, header-fits}
+use Rattle.yeldozhym.proofs.DayLaws.{front, rest, Worked, worked-start, worked-reachable, worked-room, worked-all, worked-more, more-front, first-fits, last-line, takes-some, end-is, end-count, fed-run, header-fits}
 use Rattle.yeldozhym.proofs.write_day.Statement.{statement}
 use Rattle.yeldozhym.proofs.write_day.Tie as tie
 
@@ -61,7 +61,7 @@ module _ (l : tie.At-loop Inv-loop μ-loop) where
   fits = l .before .before .before .before .before .before .before .before .pre
 
   size : length (l .loop .out) ≡ length xs
-  size = ap length (run .text) ∙ put-length xs (front input (l .loop .from)) (omega (arith, run .place, whole, fits))
+  size = ap length (run .text) ∙ put-length xs (front input (l .loop .from)) 0 (omega (arith, run .place, whole, fits))
 
   room : l .loop .at + coming ≤ length (l .loop .out)
   room = omega (arith, size, whole, fits)
@@ -228,7 +228,7 @@ same-length : tie.Need-same-length Inv-loop μ-loop
 unfolding at-end xs input
 same-length c =
     let f = c .before .before in
-    ap length (final f) ∙ put-length (xs (at-end f)) (dayOf (input (at-end f))) (fits (at-end f))
+    ap length (final f) ∙ put-length (xs (at-end f)) (dayOf (input (at-end f))) 0 (omega (arith, fits (at-end f)))
 
 returns : tie.Need-returns Inv-loop μ-loop
 unfolding at-end xs input

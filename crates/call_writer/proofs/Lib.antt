@@ -1,0 +1,6 @@
+pub mod Text
+pub mod WritingLaws
+pub mod Sizes
+pub mod RoundTrips
+pub mod Examples
+pub mod LawExamples

@@ -1,0 +1,4 @@
+pub mod Writing
+pub mod RoundTrips
+pub mod Examples
+pub mod LawExamples
