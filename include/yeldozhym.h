@@ -14,7 +14,7 @@ extern "C" {
 #endif
 
 /* The version of the tree that this header is from: what its file VERSION has. The archive carries none: take both from one tree. */
-#define YELDOZHYM_VERSION "1.1.0"
+#define YELDOZHYM_VERSION "2.0.0"
 
 /* No answer line is longer, its byte 10 included. The header before the first answer line takes YELDOZHYM_HEADER bytes. */
 #define YELDOZHYM_LONGEST_ANSWER 35UL
@@ -37,7 +37,8 @@ extern "C" {
 /*
  * Works the day that the input_len bytes at input hold, from the fresh state on: call lines, each ended by byte 10; a last line without
  * byte 10 counts if it has bytes. The day's text is the header and one answer line for each line, up to line 4,294,967,295. Call lines, the
- * header and answer lines are those of document 01, "Day lines", and docs/FORMAT.md. The text is not ended by byte 0.
+ * header and answer lines are those of document 01, "Day lines", and docs/FORMAT.md. A line of kind 11, leave, of document 02 is a call since
+ * version 2.0.0; before it was 20. The text is not ended by byte 0.
  *
  * Answers the length of that text. Where it is at most out_len, the text is at the start of out and no byte after it has changed. Where it
  * is more, no byte of out has changed. So the text was written exactly where the answer is at most out_len, and a call with out_len 0 asks
@@ -72,7 +73,8 @@ inline size_t yeldozhym_work_day(const uint8_t *input, size_t input_len, uint8_t
 
 /*
  * Writes the line of the call that a kind number and count fields are, its byte 10 included, into the out_len bytes at out, from byte number
- * place on; 0 is the first. Kind numbers, fields and their order are those of document 01, "The ten calls", and docs/FORMAT.md.
+ * place on; 0 is the first. Kind numbers, fields and their order are those of docs/FORMAT.md: kinds 1 to 10 of document 01, "The ten calls",
+ * and kind 11, leave, of document 02.
  *
  * Answers the line's length, byte 10 included, which is never 0; the bytes of out outside the line have not changed. Room for just the line is
  * enough. Answers 0, and no byte of out has changed, where place is past the end of out or what follows it is too short, which is 21 in

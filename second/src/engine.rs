@@ -1,9 +1,10 @@
 //! The exchange: balances, tickets, the three markets with their rounds, the
 //! tray and the last block, held in fixed arrays and changed in place by the
-//! ten calls. Each call first tests its reasons for refusal in rising number,
-//! then moves; an answer is a code and two numbers. Every token amount is at
-//! most the token's supply (deposits less withdrawals), which never passes
-//! 4,294,967,295, so that sums of amounts fit and products fit in 64 bits.
+//! eleven calls. Each call first tests its reasons for refusal in rising
+//! number, then moves; an answer is a code and two numbers. Every token amount
+//! is at most the token's supply (deposits less withdrawals), which never
+//! passes 4,294,967,295, so that sums of amounts fit and products fit in 64
+//! bits.
 
 /// Number of members.
 pub const MEMBERS: usize = 16;
@@ -47,7 +48,7 @@ impl Answer {
     }
 }
 
-/// One of the ten calls with its fields, not yet tested.
+/// One of the eleven calls with its fields, not yet tested.
 #[derive(Clone, Copy, PartialEq, Eq, Debug)]
 pub enum Call {
     Deposit { member: u32, token: u32, amount: u32 },
@@ -60,10 +61,11 @@ pub enum Call {
     Bid { market: u32, member: u32, block: u32, side: u32, base: u32, bound: u32 },
     Settle { market: u32, block: u32 },
     Claim { ticket: u32 },
+    Leave { ticket: u32, member: u32 },
 }
 
 impl Call {
-    /// The call's kind number, 1 to 10.
+    /// The call's kind number, 1 to 11.
     pub fn kind(&self) -> usize {
         match self {
             Call::Deposit { .. } => 1,
@@ -76,6 +78,7 @@ impl Call {
             Call::Bid { .. } => 8,
             Call::Settle { .. } => 9,
             Call::Claim { .. } => 10,
+            Call::Leave { .. } => 11,
         }
     }
 }
@@ -265,6 +268,7 @@ impl Exchange {
             }
             Call::Settle { market, block } => self.settle(market, block),
             Call::Claim { ticket } => self.claim(ticket),
+            Call::Leave { ticket, member } => self.leave(ticket, member),
         }
     }
 
@@ -350,18 +354,27 @@ impl Exchange {
         Answer::accepted(offer, 0)
     }
 
-    /// 4. Answers the amount returned, 0.
-    pub fn cancel(&mut self, ticket: u32, member: u32) -> Answer {
+    /// The refusal of a ticket that is not this member's.
+    fn not_owned(&self, ticket: u32, member: u32) -> Option<Answer> {
         if member >= MEMBERS as u32 {
-            return Answer::refused(1);
+            return Some(Answer::refused(1));
         }
         if ticket >= TICKETS as u32 {
-            return Answer::refused(4);
+            return Some(Answer::refused(4));
+        }
+        let slot = &self.tickets[ticket as usize];
+        if slot.place == Place::Free || slot.member != member {
+            return Some(Answer::refused(8));
+        }
+        None
+    }
+
+    /// 4. Answers the amount returned, 0.
+    pub fn cancel(&mut self, ticket: u32, member: u32) -> Answer {
+        if let Some(refusal) = self.not_owned(ticket, member) {
+            return refusal;
         }
         let slot = &mut self.tickets[ticket as usize];
-        if slot.place == Place::Free || slot.member != member {
-            return Answer::refused(8);
-        }
         if slot.place == Place::Round {
             return Answer::refused(9);
         }
@@ -613,5 +626,164 @@ impl Exchange {
             *round = Market::default();
         }
         Answer::accepted(pays, gets)
+    }
+
+    /// 11. Answers the offer that rests again, 0.
+    pub fn leave(&mut self, ticket: u32, member: u32) -> Answer {
+        if let Some(refusal) = self.not_owned(ticket, member) {
+            return refusal;
+        }
+        let slot = &mut self.tickets[ticket as usize];
+        if slot.place != Place::Round {
+            return Answer::refused(9);
+        }
+        let round = &mut self.markets[slot.market as usize - 1];
+        if round.phase != Phase::Collect {
+            return Answer::refused(11);
+        }
+        let side = slot.side as usize;
+        slot.place = Place::Resting;
+        round.marks &= !(1 << ticket);
+        round.holds[side] -= slot.offer;
+        round.halves[side].total -= slot.offer;
+        Answer::accepted(slot.offer, 0)
+    }
+}
+
+#[cfg(test)]
+mod tests {
+    //! That the books notice what is wrong: a right state, changed in one place.
+
+    use super::*;
+    use crate::books::{check, check_call};
+    use crate::lines::read_call;
+
+    type Change = fn(&mut Exchange);
+
+    fn accept(x: &mut Exchange, lines: &[&str]) {
+        for line in lines {
+            assert_eq!(x.call(read_call(line.as_bytes()).expect(line)).code, 0, "{line}");
+        }
+    }
+
+    /// Market 1 collects, with tickets 0 (buys) and 1 (sells). Market 2 is in
+    /// auction after a bid, with tickets 2 (buys) and 3 (sells). Market 3 is
+    /// closed. Tickets 4 (buys) and 5 (sells in market 1) rest. The others are
+    /// free.
+    fn in_auction() -> Exchange {
+        let mut x = Exchange::new();
+        accept(&mut x, &["1,0,0,1000", "1,1,1,300", "1,1,2,300", "1,2,0,500"]);
+        accept(&mut x, &["3,0,0,1,0,3000000,300", "3,1,1,1,1,2000000,150"]);
+        accept(&mut x, &["3,2,0,2,0,3000000,500", "3,3,1,2,1,2000000,300"]);
+        accept(&mut x, &["3,4,0,3,0,3000000,50", "3,5,1,1,1,2000000,100"]);
+        accept(&mut x, &["5,2,10,2500000,100000,10", "6,2", "6,3", "7,2,14"]);
+        accept(&mut x, &["5,1,15,2500000,100000,10", "6,0", "6,1", "8,2,2,19,1,60,160"]);
+        x
+    }
+
+    /// The same, with market 2 paying and ticket 2 claimed.
+    fn in_paying() -> Exchange {
+        let mut x = in_auction();
+        accept(&mut x, &["9,2,25", "10,2"]);
+        x
+    }
+
+    /// The state is right, and each change of it is told by this text.
+    fn tells(right: &Exchange, text: &str, changes: &[Change]) {
+        assert_eq!(check(right), Ok(()));
+        for (number, change) in changes.iter().enumerate() {
+            let mut x = right.clone();
+            change(&mut x);
+            assert_eq!(check(&x), Err(text), "change {number}");
+        }
+    }
+
+    #[test]
+    fn wrong_tickets_are_told() {
+        let x = in_auction();
+        tells(&x, "a free ticket is not zero", &[|x| x.tickets[63].limit = 1]);
+        let nothing: [Change; 2] = [|x| x.tickets[0].offer = 0, |x| x.tickets[4].offer = 0];
+        tells(&x, "a ticket in use offers nothing", &nothing);
+    }
+
+    #[test]
+    fn wrong_rounds_are_told() {
+        let x = in_auction();
+        tells(&x, "a closed market is not zero", &[|x| x.markets[2].opened = 1]);
+        let marks: [Change; 4] = [
+            |x| x.markets[0].marks |= 1 << 63,
+            |x| x.markets[0].marks &= !1,
+            |x| x.markets[1].marks &= !(1 << 3),
+            |x| x.tickets[5].place = Place::Round,
+        ];
+        for x in [&x, &in_paying()] {
+            tells(x, "the marks of a round are not its tickets", &marks);
+        }
+        let totals: [Change; 5] = [
+            |x| x.markets[0].halves[0].total += 1,
+            |x| x.markets[0].halves[1].total -= 1,
+            |x| x.markets[1].halves[0].total -= 1,
+            |x| x.markets[1].halves[1].total += 1,
+            |x| x.tickets[0].offer += 1,
+        ];
+        tells(&x, "a total is not its tickets' offers", &totals);
+        let holds: [Change; 2] = [|x| x.markets[0].holds[0] += 1, |x| x.markets[0].holds[1] -= 1];
+        tells(&x, "a collecting round does not hold its totals", &holds);
+    }
+
+    #[test]
+    fn wrong_amounts_are_told() {
+        let changes: [Change; 9] = [
+            |x| x.balances[0][0] += 1,
+            |x| x.balances[15][3] += 1,
+            |x| x.balances[1][1] -= 1,
+            |x| x.supply[2] += 1,
+            |x| x.tray[2] += 1,
+            |x| x.tickets[4].offer -= 1,
+            |x| x.tickets[5].offer += 1,
+            |x| x.markets[1].holds[0] += 1,
+            |x| x.markets[1].holds[1] -= 1,
+        ];
+        for x in [in_auction(), in_paying()] {
+            tells(&x, "an amount came up or went missing", &changes);
+        }
+    }
+
+    #[test]
+    fn wrong_refusals_are_told() {
+        let was = in_auction();
+        let call = Call::Enter { ticket: 63 };
+        let refused = Answer::refused(8);
+        assert_eq!(check_call(&was, &was, call, refused), Ok(()));
+        for answer in [Answer { first: 1, ..refused }, Answer { second: 1, ..refused }] {
+            let told = check_call(&was, &was, call, answer);
+            assert_eq!(told, Err("a refusal does not answer two zeros"));
+        }
+        let is = Exchange { last_block: 20, ..was.clone() };
+        assert_eq!(check_call(&was, &is, call, refused), Err("a refusal changed something"));
+    }
+
+    #[test]
+    fn wrong_acceptances_are_told() {
+        let was = in_auction();
+        let call = Call::Deposit { member: 0, token: 0, amount: 5 };
+        let mut is = was.clone();
+        let answer = is.call(call);
+        assert_eq!(check_call(&was, &is, call, answer), Ok(()));
+        is.balances[0][0] -= 1;
+        let told = check_call(&was, &is, call, answer);
+        assert_eq!(told, Err("an amount came up or went missing"));
+
+        for call in [Call::Enter { ticket: 5 }, Call::Leave { ticket: 1, member: 1 }] {
+            let mut is = was.clone();
+            let answer = is.call(call);
+            assert_eq!(check_call(&was, &is, call, answer), Ok(()));
+            is.last_block += 1;
+            // it also moved the last block, or it did nothing
+            for is in [&is, &was] {
+                let told = check_call(&was, is, call, answer);
+                assert_eq!(told, Err("enter and leave do not undo each other"), "{call:?}");
+            }
+        }
     }
 }

@@ -1,9 +1,9 @@
 //! The text form of calls and answers: a call line read from bytes into a
 //! call (or into nothing, which the day answers with code 20), a call written
 //! as its line, also into a lent buffer at a place, and an answer line written
-//! into a byte buffer.
+//! into a byte buffer, also into a lent one as the call is worked.
 
-use crate::engine::{Answer, Call};
+use crate::engine::{Answer, Call, Exchange};
 
 /// The first line that the day program prints.
 pub const HEADER: &[u8] = b"line,code,first,second\n";
@@ -19,13 +19,16 @@ pub const LINE_MOST: usize = 80;
 
 /// Room that is always enough to write an answer line (at most 35 bytes long:
 /// only code 0, of one digit, comes with numbers above 0).
-pub const ANSWER_ROOM: usize = 48;
+const ANSWER_ROOM: usize = 48;
 
 /// Room that is always enough to write a call line (at most 68 bytes long).
 pub const CALL_ROOM: usize = 80;
 
+/// Number of kinds; the first one is 1.
+pub const KINDS: usize = 11;
+
 /// Number of fields by kind.
-pub const FIELDS: [usize; 11] = [0, 3, 3, 6, 2, 5, 1, 2, 6, 2, 1];
+pub const FIELDS: [usize; KINDS + 1] = [0, 3, 3, 6, 2, 5, 1, 2, 6, 2, 1, 2];
 
 /// Most numbers on a line: the kind and six fields.
 const NUMBERS: usize = 7;
@@ -138,6 +141,7 @@ pub fn call_of(kind: u32, fields: &[u32]) -> Option<Call> {
         }
         (9, &[market, block]) => Some(Call::Settle { market, block }),
         (10, &[ticket]) => Some(Call::Claim { ticket }),
+        (11, &[ticket, member]) => Some(Call::Leave { ticket, member }),
         _ => None,
     }
 }
@@ -228,7 +232,7 @@ const fn both_zero_texts() -> [[u8; 8]; 21] {
 
 /// Writes an answer line with its byte 10 and gives its length.
 #[inline]
-pub fn write_answer(room: &mut [u8; ANSWER_ROOM], number: u32, answer: Answer) -> usize {
+fn write_answer(room: &mut [u8; ANSWER_ROOM], number: u32, answer: Answer) -> usize {
     let mut at = write_number(room, 0, number);
     let Answer { code, first, second } = answer;
     if first | second == 0 {
@@ -245,6 +249,34 @@ pub fn write_answer(room: &mut [u8; ANSWER_ROOM], number: u32, answer: Answer) -
     at + 1
 }
 
+/// Works a call, or a line that is none, and writes its answer line with byte
+/// 10 into a lent buffer: the code and the answer line's length. Where the
+/// buffer is too short for it, no byte changes and nothing moves, and the code
+/// is 21 and the length 0.
+#[inline]
+pub fn answer_line(
+    exchange: &mut Exchange,
+    number: u32,
+    call: Option<Call>,
+    out: &mut [u8],
+) -> (u8, usize) {
+    let was = (out.len() < ANSWER_ROOM).then(|| exchange.clone());
+    let answer = match call {
+        Some(call) => exchange.call(call),
+        None => Answer::refused(NO_CALL),
+    };
+    let mut line = [0; ANSWER_ROOM];
+    let len = write_answer(&mut line, number, answer);
+    if let Some(room) = out.get_mut(..len) {
+        room.copy_from_slice(&line[..len]);
+        return (answer.code, len);
+    }
+    if let Some(was) = was {
+        *exchange = was;
+    }
+    (NO_ROOM, 0)
+}
+
 /// Writes a call line with its byte 10 and gives its length.
 pub fn write_call(room: &mut [u8; CALL_ROOM], call: Call) -> usize {
     let mut at = write_number(room, 0, call.kind() as u32);
@@ -255,7 +287,9 @@ pub fn write_call(room: &mut [u8; CALL_ROOM], call: Call) -> usize {
         Call::Order { ticket, member, market, side, limit, amount } => {
             ([ticket, member, market, side, limit, amount], 6)
         }
-        Call::Cancel { ticket, member } => ([ticket, member, 0, 0, 0, 0], 2),
+        Call::Cancel { ticket, member } | Call::Leave { ticket, member } => {
+            ([ticket, member, 0, 0, 0, 0], 2)
+        }
         Call::Open { market, block, reference, slack, length } => {
             ([market, block, reference, slack, length, 0], 5)
         }
@@ -304,7 +338,7 @@ mod tests {
     }
 
     /// Calls of every kind, with numbers of mixed lengths.
-    fn every_kind() -> [Call; 11] {
+    fn every_kind() -> [Call; 12] {
         let most = u32::MAX;
         [
             Call::Deposit { member: 0, token: 1, amount: most },
@@ -325,11 +359,14 @@ mod tests {
             Call::Bid { market: 6, member: 5, block: 4, side: 3, base: 2, bound: 1 },
             Call::Settle { market: 12345678, block: 123456789 },
             Call::Claim { ticket: 1234567890 },
+            Call::Leave { ticket: 63, member: most },
         ]
     }
 
     #[test]
     fn calls_of_every_kind() {
+        let kinds: Vec<usize> = every_kind().iter().map(Call::kind).collect();
+        assert!((1..=KINDS).all(|kind| kinds.contains(&kind)), "{kinds:?}");
         for call in every_kind() {
             let mut room = [0; CALL_ROOM];
             let len = write_call(&mut room, call);
@@ -353,13 +390,17 @@ mod tests {
 
     #[test]
     fn lines_that_are_no_call() {
-        let lines: [&[u8]; 40] = [
+        let lines: [&[u8]; 44] = [
             b"",
             b",",
             b"0",
             b"0,1",
             b"1",
-            b"11,1",
+            b"11,0",
+            b"11,1,2,3",
+            b"11,1,02",
+            b"12,1",
+            b"12,1,2",
             b"4294967295,1",
             b"01,0,0,5",
             b"1,00,0,5",
@@ -558,9 +599,9 @@ mod tests {
     #[test]
     fn lines_read_and_written_again() {
         let mut chance = Chance::new(1);
-        let mut calls = [0; 11];
+        let mut calls = [0; KINDS + 1];
         for _ in 0..200_000 {
-            let kind = chance.between(1, 10);
+            let kind = chance.between(1, KINDS as u64);
             let mut line = kind.to_string();
             for _ in 0..FIELDS[kind as usize] {
                 line += &format!(",{}", chance.any_size(5_000_000_000) - 1);
@@ -585,7 +626,7 @@ mod tests {
         for kind in (0..300).chain([1 << 16 | 6, 1 << 31 | 6, u32::MAX]) {
             for count in 0..=fields.len() {
                 let call = call_of(kind, &fields[..count]);
-                let right = (1..=10).contains(&kind) && FIELDS[kind as usize] == count;
+                let right = (1..=KINDS as u32).contains(&kind) && FIELDS[kind as usize] == count;
                 assert_eq!(call.is_some(), right, "{kind} {count}");
                 if let Some(call) = call {
                     let numbers: Vec<String> =

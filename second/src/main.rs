@@ -3,8 +3,8 @@
 //! lines may arrive in pieces of any size. An input or output error is told
 //! on standard error and ends the program with exit code 1.
 
-use second::lines::{LINE_MOST, NO_CALL};
-use second::{next_line, read_call, write_answer, Answer, Call, Exchange, ANSWER_ROOM, HEADER};
+use second::lines::{LINE_MOST, NO_ROOM};
+use second::{answer_line, next_line, read_call, Call, Exchange, HEADER};
 use std::fs::File;
 use std::io::{self, ErrorKind, Read, Write};
 use std::os::fd::AsFd;
@@ -49,18 +49,16 @@ impl<W: Write> Day<W> {
     /// Answers one line.
     #[inline]
     fn answer(&mut self, call: Option<Call>) -> Result<(), Fault> {
-        let answer = match call {
-            Some(call) => self.exchange.call(call),
-            None => Answer::refused(NO_CALL),
-        };
-        if self.out.len() - self.filled < ANSWER_ROOM {
+        loop {
+            let room = &mut self.out[self.filled..];
+            let (code, len) = answer_line(&mut self.exchange, self.number as u32, call, room);
+            if code != NO_ROOM {
+                self.filled += len;
+                self.number += 1;
+                return Ok(());
+            }
             self.flush()?;
         }
-        if let Some(room) = self.out[self.filled..].first_chunk_mut::<ANSWER_ROOM>() {
-            self.filled += write_answer(room, self.number as u32, answer);
-        }
-        self.number += 1;
-        Ok(())
     }
 
     fn done(&self) -> bool {

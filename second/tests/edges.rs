@@ -1,9 +1,9 @@
 //! Tests of the exchange: the day of the specification with its answers,
-//! every edge that the specification lists, the order of the refusals, and
-//! what a round leaves behind. After each call the books are checked: all
-//! that was deposited is somewhere, and free and closed things are zero.
+//! every edge that the specification lists, the order of the refusals, what a
+//! round leaves behind, and members who leave one. The books are checked after
+//! each call, and that enter and leave undo each other.
 
-use second::{read_call, Answer, Exchange, Market, Phase, Place, Ticket};
+use second::{answer_line, books, read_call, Exchange, Phase, Place};
 
 struct House {
     exchange: Exchange,
@@ -18,13 +18,26 @@ impl House {
     fn call(&mut self, line: &str) -> (u8, u32, u32) {
         let call = read_call(line.as_bytes()).expect(line);
         let before = self.exchange.clone();
-        let Answer { code, first, second } = self.exchange.call(call);
-        if code != 0 {
-            assert_eq!(self.exchange, before, "{line}");
-            assert_eq!((first, second), (0, 0), "{line}");
+        let answer = self.exchange.call(call);
+        assert_eq!(books::check_call(&before, &self.exchange, call, answer), Ok(()), "{line}");
+        (answer.code, answer.first, answer.second)
+    }
+
+    /// Works call lines and compares their answers.
+    fn answers(&mut self, lines: &[(&str, (u8, u32, u32))]) {
+        for (line, answer) in lines {
+            assert_eq!(self.call(line), *answer, "{line}");
         }
-        self.check_books();
-        (code, first, second)
+    }
+
+    /// Works a call line for a lent buffer of so many bytes 35: code, length
+    /// and the buffer after it.
+    fn lent(&mut self, number: u32, line: &str, size: usize) -> (u8, usize, String) {
+        let mut out = vec![b'#'; size];
+        let call = read_call(line.as_bytes());
+        let (code, len) = answer_line(&mut self.exchange, number, call, &mut out);
+        assert_eq!(books::check(&self.exchange), Ok(()), "{line}");
+        (code, len, String::from_utf8(out).unwrap())
     }
 
     /// Works call lines that must all be accepted.
@@ -37,37 +50,6 @@ impl House {
     /// Works a call line that must be refused with this code.
     fn refused(&mut self, code: u8, line: &str) {
         assert_eq!(self.call(line), (code, 0, 0), "{line}");
-    }
-
-    fn check_books(&self) {
-        let x = &self.exchange;
-        let mut sums = *x.tray();
-        for row in x.balances() {
-            for (sum, amount) in sums.iter_mut().zip(row) {
-                *sum += amount;
-            }
-        }
-        let mut marks = [0u64; 3];
-        for (number, ticket) in x.tickets().iter().enumerate() {
-            match ticket.place {
-                Place::Free => assert_eq!(*ticket, Ticket::default()),
-                Place::Resting => {
-                    let token = if ticket.side == 0 { 0 } else { ticket.market as usize };
-                    sums[token] += ticket.offer;
-                }
-                Place::Round => marks[ticket.market as usize - 1] |= 1 << number,
-            }
-            assert_eq!(ticket.place == Place::Free, ticket.offer == 0);
-        }
-        for (place, market) in x.markets().iter().enumerate() {
-            if market.phase == Phase::Closed {
-                assert_eq!(*market, Market::default());
-            }
-            assert_eq!(market.marks, marks[place]);
-            sums[0] += market.holds[0];
-            sums[place + 1] += market.holds[1];
-        }
-        assert_eq!(sums, *x.supply());
     }
 
     fn phase(&self, market: usize) -> Phase {
@@ -95,18 +77,14 @@ const DAY: [(&str, (u8, u32, u32)); 14] = [
 /// The day up to its match.
 fn day_in_auction() -> House {
     let mut house = House::new();
-    for (line, answer) in &DAY[..9] {
-        assert_eq!(house.call(line), *answer);
-    }
+    house.answers(&DAY[..9]);
     house
 }
 
 #[test]
 fn the_day() {
     let mut house = House::new();
-    for (line, answer) in DAY {
-        assert_eq!(house.call(line), answer, "{line}");
-    }
+    house.answers(&DAY);
     assert_eq!(house.phase(1), Phase::Closed);
     assert_eq!(*house.exchange.tray(), [0; 4]);
     assert_eq!(house.exchange.last_block(), 19);
@@ -326,6 +304,12 @@ fn refusals_in_rising_number() {
     house.refused(4, "4,64,15");
     house.refused(8, "4,62,15");
     house.refused(8, "4,63,14");
+    house.refused(1, "11,64,16");
+    house.refused(1, "11,63,16");
+    house.refused(4, "11,64,15");
+    house.refused(8, "11,62,15");
+    house.refused(8, "11,63,14");
+    house.refused(9, "11,63,15");
     house.refused(3, "5,0,0,0,0,0");
     house.refused(3, "5,4,0,0,0,0");
     house.refused(10, "5,3,0,0,0,1");
@@ -343,6 +327,8 @@ fn refusals_in_rising_number() {
     house.refused(9, "6,63");
     house.refused(9, "4,63,15");
     house.refused(8, "4,63,14");
+    house.refused(1, "11,63,16");
+    house.refused(8, "11,63,14");
     house.refused(11, "10,63");
     house.refused(10, "5,3,0,1,0,65");
     house.refused(11, "5,3,0,1,0,64");
@@ -354,6 +340,10 @@ fn refusals_in_rising_number() {
     house.calls(&["7,3,11"]);
     house.refused(11, "7,3,0");
     house.refused(11, "10,63");
+    house.refused(1, "11,63,16");
+    house.refused(8, "11,63,14");
+    house.refused(9, "4,63,15");
+    house.refused(11, "11,63,15");
     house.refused(1, "8,0,16,0,2,0,0");
     house.refused(3, "8,0,15,0,2,0,0");
     house.refused(3, "8,4,15,0,2,0,0");
@@ -373,6 +363,178 @@ fn refusals_in_rising_number() {
     house.refused(11, "8,3,15,76,1,1,1");
     house.refused(4, "10,64");
     house.refused(8, "10,62");
+    house.refused(8, "11,63,14");
+    house.refused(11, "11,63,15");
     assert_eq!(house.call("10,63"), (0, 0, 0));
+    house.refused(9, "11,63,15");
     assert_eq!(house.phase(3), Phase::Closed);
+}
+
+/// A day on which a member enters too early and leaves.
+const LEAVING: [(&str, (u8, u32, u32)); 28] = [
+    ("1,0,0,1000", (0, 1000, 0)),
+    ("1,1,1,300", (0, 300, 0)),
+    ("3,0,0,1,0,3000000,600", (0, 600, 0)),
+    ("3,1,1,1,1,2000000,300", (0, 300, 0)),
+    ("3,2,0,1,0,3000000,100", (0, 100, 0)),
+    ("11,0,0", (9, 0, 0)),
+    ("5,1,10,2500000,100000,10", (0, 2750000, 2250000)),
+    ("11,0,16", (1, 0, 0)),
+    ("11,64,16", (1, 0, 0)),
+    ("11,64,0", (4, 0, 0)),
+    ("11,63,0", (8, 0, 0)),
+    ("11,0,1", (8, 0, 0)),
+    ("11,0,0", (9, 0, 0)),
+    ("6,0", (0, 600, 0)),
+    ("6,2", (0, 700, 0)),
+    ("11,0,1", (8, 0, 0)),
+    ("11,0,0", (0, 600, 0)),
+    ("11,0,0", (9, 0, 0)),
+    ("4,0,0", (0, 600, 0)),
+    ("6,1", (0, 300, 0)),
+    ("7,1,14", (0, 40, 100)),
+    ("11,2,0", (11, 0, 0)),
+    ("9,1,25", (0, 100, 40)),
+    ("11,2,0", (11, 0, 0)),
+    ("10,2", (0, 100, 40)),
+    ("10,1", (0, 40, 100)),
+    ("11,1,1", (9, 0, 0)),
+    ("4,1,1", (0, 260, 0)),
+];
+
+#[test]
+fn the_day_of_leaving() {
+    let mut house = House::new();
+    house.answers(&LEAVING);
+    assert_eq!(house.phase(1), Phase::Closed);
+    assert_eq!(*house.exchange.tray(), [0; 4]);
+    assert_eq!(house.exchange.balances()[0], [900, 40, 0, 0]);
+    assert_eq!(house.exchange.balances()[1], [100, 260, 0, 0]);
+    assert_eq!(house.exchange.last_block(), 25);
+}
+
+#[test]
+fn a_round_that_all_left() {
+    let mut house = House::new();
+    house.answers(&[
+        ("1,0,0,5", (0, 5, 0)),
+        ("3,0,0,2,0,2000000000,5", (0, 5, 0)),
+        ("5,2,0,1,0,1", (0, 1, 1)),
+        ("6,0", (0, 5, 0)),
+        ("11,0,0", (0, 5, 0)),
+        ("6,0", (0, 5, 0)),
+        ("11,0,0", (0, 5, 0)),
+        ("7,2,4", (0, 0, 0)),
+        ("9,2,4", (0, 0, 0)),
+    ]);
+    assert_eq!(house.phase(2), Phase::Closed);
+    assert_eq!(*house.exchange.tray(), [0; 4]);
+    house.calls(&["5,2,4,1,0,1", "6,0", "7,2,8"]);
+    house.refused(11, "11,0,0");
+}
+
+#[test]
+fn leaving_takes_the_offer_off_its_side_alone() {
+    let mut house = House::new();
+    house.calls(&["1,0,0,300", "1,1,1,300", "5,1,0,1000000,0,5"]);
+    house.calls(&["3,0,0,1,0,1000000,100", "3,1,0,1,0,1000000,101"]);
+    house.calls(&["3,2,1,1,1,1000000,30", "3,3,1,1,1,1000000,50"]);
+    house.calls(&["6,0", "6,1", "6,2", "6,3"]);
+    assert_eq!(house.call("11,0,0"), (0, 100, 0));
+    assert_eq!(house.exchange.markets()[0].holds, [101, 80]);
+    assert_eq!(house.call("11,3,1"), (0, 50, 0));
+    assert_eq!(house.exchange.markets()[0].holds, [101, 30]);
+    assert_eq!(house.exchange.markets()[0].marks, 0b110);
+    assert_eq!(house.call("11,2,1"), (0, 30, 0));
+    assert_eq!(house.exchange.markets()[0].holds, [101, 0]);
+    // In again, in another order; what a side answers is its total.
+    assert_eq!(house.call("6,3"), (0, 50, 0));
+    assert_eq!(house.call("6,2"), (0, 80, 0));
+    assert_eq!(house.call("7,1,4"), (0, 80, 80));
+    assert_eq!(house.call("9,1,10"), (0, 80, 80));
+    assert_eq!(house.call("10,1"), (0, 80, 80));
+    house.refused(9, "10,0");
+    assert_eq!(house.call("10,2"), (0, 30, 30));
+    assert_eq!(house.call("10,3"), (0, 50, 50));
+    assert_eq!(house.phase(1), Phase::Closed);
+}
+
+#[test]
+fn leave_looks_at_the_tickets_own_market() {
+    let mut house = House::new();
+    house.calls(&["1,0,0,20", "3,1,0,1,0,2000000000,10", "3,2,0,2,0,2000000000,10"]);
+    house.calls(&["5,1,0,1,0,1", "6,1", "7,1,4", "5,2,4,1,0,1", "6,2"]);
+    house.refused(11, "11,1,0");
+    assert_eq!(house.call("11,2,0"), (0, 10, 0));
+    house.calls(&["6,2", "9,1,6"]);
+    house.refused(11, "11,1,0");
+    assert_eq!(house.call("11,2,0"), (0, 10, 0));
+    // It moves no block.
+    assert_eq!(house.exchange.last_block(), 6);
+    // Resting, it is 9 in any phase.
+    for line in ["10,1", "7,2,8", "9,2,8"] {
+        house.refused(9, "11,2,0");
+        house.calls(&[line]);
+    }
+    house.refused(9, "11,2,0");
+}
+
+#[test]
+fn a_ticket_that_left_meets_the_tests_of_enter() {
+    let mut house = House::new();
+    house.calls(&["1,0,0,10", "1,1,1,10", "5,1,0,1000000,0,1"]);
+    house.calls(&["3,0,0,1,0,1000000,10", "3,1,1,1,1,1000000,10"]);
+    house.calls(&["6,0", "6,1", "11,0,0", "11,1,1", "7,1,4"]);
+    house.refused(11, "6,0");
+    house.refused(11, "6,1");
+    house.calls(&["9,1,4", "5,1,4,1000001,0,1"]);
+    house.refused(15, "6,0");
+    house.calls(&["6,1", "11,1,1", "7,1,8", "9,1,8", "5,1,8,999999,0,1"]);
+    house.refused(15, "6,1");
+    house.calls(&["6,0", "11,0,0", "6,0"]);
+    house.refused(9, "6,0");
+}
+
+#[test]
+fn a_rest_leaves_with_what_is_left() {
+    let mut house = day_in_auction();
+    house.calls(&["9,1,25", "10,0", "10,1", "5,1,25,2000000,0,1"]);
+    assert_eq!(house.call("6,1"), (0, 60, 0));
+    assert_eq!(house.call("11,1,1"), (0, 60, 0));
+    assert_eq!(house.call("4,1,1"), (0, 60, 0));
+}
+
+#[test]
+fn the_largest_offers_leave() {
+    let mut house = House::new();
+    house.calls(&["1,0,1,4294967295", "3,0,0,1,1,1,4294967295"]);
+    house.calls(&["1,1,0,4294967295", "3,1,1,1,0,2000000000,4294967295"]);
+    house.calls(&["5,1,4294967295,1000000,0,1", "6,0", "6,1"]);
+    // The round can never be matched, but it can be left.
+    house.refused(13, "7,1,4294967295");
+    assert_eq!(house.call("11,0,0"), (0, 4294967295, 0));
+    assert_eq!(house.call("11,1,1"), (0, 4294967295, 0));
+    house.calls(&["4,0,0", "4,1,1", "2,0,1,4294967295", "2,1,0,4294967295"]);
+}
+
+#[test]
+fn a_leave_whose_answer_has_no_room() {
+    let mut house = House::new();
+    house.answers(&LEAVING[..16]);
+    let before = house.exchange.clone();
+    for size in 0..=10 {
+        assert_eq!(house.lent(17, "11,0,0", size), (21, 0, "#".repeat(size)));
+        assert_eq!(house.exchange, before);
+    }
+    assert_eq!(house.lent(17, "11,0,1", 8), (21, 0, "########".to_string()));
+    assert_eq!(house.lent(17, "11,0,1", 9), (8, 9, "17,8,0,0\n".to_string()));
+    assert_eq!(house.lent(17, "11,0", 10), (20, 10, "17,20,0,0\n".to_string()));
+    assert_eq!(house.exchange, before);
+    assert_eq!(house.exchange.tickets()[0].place, Place::Round);
+    assert_eq!(house.lent(17, "11,0,0", 12), (0, 11, "17,0,600,0\n#".to_string()));
+    assert_eq!(house.exchange.tickets()[0].place, Place::Resting);
+    assert_eq!(house.lent(18, "6,0", 11), (0, 11, "18,0,700,0\n".to_string()));
+    assert_eq!(house.exchange, before);
+    let long = (0, 11, "17,0,600,0\n".to_string() + &"#".repeat(89));
+    assert_eq!(house.lent(17, "11,0,0", 100), long);
 }

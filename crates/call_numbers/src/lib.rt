@@ -93,6 +93,10 @@ pub fn numbers_of(call: Call) -> CallNumbers
             count: 2,
             values: [10, ticket, 0, 0, 0, 0, 0, 0],
         },
+        Call::Leave { ticket, member } => CallNumbers {
+            count: 3,
+            values: [11, ticket, member, 0, 0, 0, 0, 0],
+        },
     }
 }
 

@@ -57,8 +57,12 @@ bounds-refused =
       rests-marked = λ b. let h : _≡_ {A = ℕ} 1 0 = b .rests 63 (omega arith) _ refl in omega (arith, h);
       marked-free = λ b. let e = b .marked 3 (omega arith) (omega arith) 63 (omega arith) refl .2 in absurd (let z : _≡_ {A = ℕ} 0 1 = cc in omega arith);
       marked-other = λ b. let m = b .marked 3 (omega arith) (omega arith) 63 (omega arith) refl in let h : _≡_ {A = ℕ} 2 3 = ap (λ t. orderIn t .market) (m .2) ∙ m .1 in omega (arith, h);
-      not-marked = λ b. let h : _≡_ {A = ℕ} 0 1 = b .claims 63 (omega arith) _ _ refl refl .member in omega (arith, h);
-      above-total = λ b. let h : 5 ≤ 4 = b .claims 63 (omega arith) _ _ refl refl .offer in omega (arith, h);
+      entered-unmarked = λ b. let h : _≡_ {A = ℕ} 0 1 = b .entered 63 (omega arith) _ refl .member in omega (arith, h);
+      entered-sell-over = λ b. let h : 5 ≤ 4 = b .entered 63 (omega arith) _ refl .offer in omega (arith, h);
+      entered-buy-over = λ b. let h : 5 ≤ 4 = b .entered 63 (omega arith) _ refl .offer in omega (arith, h);
+      paying-unmarked = λ b. let h : _≡_ {A = ℕ} 0 1 = b .entered 63 (omega arith) _ refl .member in omega (arith, h);
+      paying-over = λ b. let h : 5 ≤ 4 = b .entered 63 (omega arith) _ refl .offer in omega (arith, h);
+      entered-closed = λ b. let h : _≡_ {A = ℕ} 0 1 = b .entered 63 (omega arith) _ refl .member in omega (arith, h);
       pays-over = λ c. let h : 6 ≤ 5 = c .paid in omega (arith, h);
       sell-refund = λ b. let h : 1 ≤ 0 = b .claims 63 (omega arith) _ _ refl refl .refund in omega (arith, h);
       sell-payment = λ b. let h : 3 ≤ 2 = b .claims 63 (omega arith) _ _ refl refl .payment in omega (arith, h);
@@ -68,6 +72,7 @@ bounds-refused =
       started-later = λ b. let h : 8 ≤ 7 = b .started 3 (omega arith) (omega arith) in omega (arith, h);
       over-first = λ b. let h : 4 ≤ 3 = b .within 0 0 1 1 (omega arith) (omega arith) (omega arith) (omega arith) (omega arith) in omega (arith, h);
       first-length = λ b. let h : 65 ≤ 64 = b .phase-bounds 1 (omega arith) (omega arith) .terms .len-high in omega (arith, h);
+      first-entered = λ b. let h : _≡_ {A = ℕ} 0 1 = b .entered 0 (omega arith) _ refl .member in omega (arith, h);
       first-marked = λ b. let e = b .marked 1 (omega arith) (omega arith) 0 (omega arith) refl .2 in absurd (let z : _≡_ {A = ℕ} 0 1 = cc in omega arith);
       first-opened = λ b. let h : 8 ≤ 7 = b .opened 1 (omega arith) (omega arith) in omega (arith, h);
       first-started = λ b. let h : 8 ≤ 7 = b .started 1 (omega arith) (omega arith) in omega (arith, h);

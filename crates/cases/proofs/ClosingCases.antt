@@ -19,7 +19,7 @@ use Rattle.model.specs.Run.{stepOf}
 use Rattle.model.specs.Closing.{afterCalls, AllAccepted, next-call, times, Names, closingCalls}
 use Rattle.model.specs.Scripts.{callsOf}
 use Rattle.model.specs.Day.{dayOrders, dayCollect}
-use Rattle.model.specs.Examples.{lastBlocks}
+use Rattle.cases.specs.Examples.{lastBlocks}
 use Rattle.cases.specs.KindCases.{numbersFrom}
 use Rattle.cases.specs.ClosingCases.{dayOver, daySold, lastAuction, allMarked, closingNumbers, ClosingUsed, ClosingRefused}
 use Rattle.model.proofs.Computing.{call-computes}

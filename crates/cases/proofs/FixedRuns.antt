@@ -7,10 +7,10 @@ use Rattle.model.specs.History.{logOf}
 use Rattle.model.specs.WholeRun.{All, LimitKept, RoundPays, EndedWell}
 use Rattle.model.specs.Scripts.{requests, callsOf}
 use Rattle.model.specs.Day.{dayOrders, dayCollect, dayAuction, untilSettle, printed}
-use Rattle.model.specs.Examples.{lastPlacesEnded, lastPlacesSettled, lastPlacesPaid, lastPlaces}
-use Rattle.cases.specs.Fixes.{told, toldSettled, toldPaid, SettledFixed, PaidFixed, answered, DayFixed}
+use Rattle.cases.specs.Examples.{lastPlacesEnded, lastPlacesSettled, lastPlacesPaid, lastPlaces, sellsLeft}
+use Rattle.cases.specs.Fixes.{told, toldSettled, toldPaid, SettledFixed, PaidFixed, LeftFixed, answered, DayFixed}
 use Rattle.model.proofs.Computing.{history-computes}
-use Rattle.cases.proofs.Fixes.{fixes-settled, fixes-paid, fixes-day}
+use Rattle.cases.proofs.Fixes.{fixes-settled, fixes-paid, fixes-left, fixes-day}
 use Rattle.model.proofs.Day.{has-round}
 use Rattle.model.proofs.WholeRun.{whole-run}
 
@@ -21,6 +21,10 @@ model-settled = fixes-settled requestOf _ (whole-run (requests (callsOf (lastPla
 pub model-paid : PaidFixed (stateAfter requestOf freshExchange (requests (callsOf lastPlaces)))
 unfolding told lastPlacesEnded lastPlacesSettled lastPlacesPaid callsOf history-computes
 model-paid = fixes-paid requestOf _ (whole-run (requests (callsOf lastPlaces)))
+
+pub model-left : LeftFixed (stateAfter requestOf freshExchange (requests (callsOf sellsLeft)))
+unfolding told sellsLeft callsOf history-computes
+model-left = fixes-left requestOf _ (whole-run (requests (callsOf sellsLeft)))
 
 pub model-day : DayFixed requestOf (stateAfter requestOf freshExchange (requests untilSettle))
 unfolding answered dayOrders dayCollect dayAuction printed history-computes

@@ -9,11 +9,11 @@ use Rattle.model.specs.State.{balance, supply, residue, ticket}
 use Rattle.model.specs.Run.{Engine}
 use Rattle.model.specs.History.{logOf}
 use Rattle.model.specs.WholeRun.{Whole, SettledTicket, PaysOut, balances, resting}
-use Rattle.cases.specs.Fixes.{told, toldSettled, FixesSettled, FixesPaid, answered, toldDay, FixesDay}
+use Rattle.cases.specs.Fixes.{told, toldSettled, FixesSettled, FixesPaid, FixesLeft, answered, toldDay, FixesDay}
 use Rattle.cases.specs.Literals.{order, terms}
 use Rattle.cases.specs.KindCases.{claimRequest}
 use Rattle.model.specs.Day.{dayOrders, dayCollect, dayAuction, printed}
-use Rattle.model.specs.Examples.{lastPlacesEnded, lastPlacesSettled, lastPlacesPaid}
+use Rattle.cases.specs.Examples.{lastPlacesEnded, lastPlacesSettled, lastPlacesPaid, sellsLeft}
 use Rattle.units.specs.Decimal.{digits}
 use Rattle.model.specs.Answers.{answerLine}
 use Rattle.model.proofs.Computing.{past-computes}
@@ -120,6 +120,26 @@ fixes-paid f x w =
       buyer-3 = omega (arith, a143);
       ticket-2 = free-of (ticket x 2) (w .tickets .tickets-are 2 (omega arith));
       ticket-63 = rests-of (ticket x 63) _ _ _ (w .tickets .tickets-are 63 (omega arith)) (w .tickets .places-are 63 (omega arith) 3 (omega arith) (omega arith));
+    }
+
+pub fixes-left : FixesLeft
+unfolding told sellsLeft past-computes
+fixes-left f x w =
+    let r0 : residue x 0 ≡ 0 = w .past .residue-is 0 (omega arith) in
+    let r3 : residue x 3 ≡ 0 = w .past .residue-is 3 (omega arith) in
+    let c0 : balances x 0 + resting x 0 + 35 + residue x 0 + 0 ≡ 380 = w .books .conserved 0 (omega arith) in
+    let c3 : balances x 3 + resting x 3 + 98 + residue x 3 + 0 ≡ 300 = w .books .conserved 3 (omega arith) in
+    let a153 : balance x 15 3 + 170 ≡ 200 = w .books .accounts 15 (omega arith) 3 (omega arith) in
+    let a130 : balance x 13 0 + 275 ≡ 300 = w .books .accounts 13 (omega arith) 0 (omega arith) in
+    record {
+      ticket-63 = rests-of (ticket x 63) _ _ _ (w .tickets .tickets-are 63 (omega arith)) (w .tickets .places-are 63 (omega arith) 3 (omega arith) (omega arith));
+      ticket-5 = rests-of (ticket x 5) _ _ _ (w .tickets .tickets-are 5 (omega arith)) (w .tickets .places-are 5 (omega arith) 3 (omega arith) (omega arith));
+      ticket-62 = entered-of (ticket x 62) _ 3 _ (w .tickets .places-are 62 (omega arith) 3 (omega arith) (omega arith));
+      ticket-6 = entered-of (ticket x 6) _ 3 _ (w .tickets .places-are 6 (omega arith) 3 (omega arith) (omega arith));
+      sum-0 = omega (arith, r0, c0);
+      sum-3 = omega (arith, r3, c3);
+      seller-3 = omega (arith, a153);
+      buyer-0 = omega (arith, a130);
     }
 
 -- ticket 0 of the day

@@ -2,10 +2,11 @@
 use mathlib.Core.Bool.{true, false}
 use mathlib.Core.Path.{_≡_, refl}
 use mathlib.Core.List.{[], _∷_, map}
+use lib.ListN.{replicate}
 use Rattle.pricing.specs.declared.Side.the-variants.{Buy, Sell}
 use Rattle.model.specs.History.{no-order, placed, absent, waiting, claimed, partOf, claimedAs, sameStage}
 use Rattle.cases.specs.Literals.{terms}
-use Rattle.cases.specs.HistoryCases.{lessened, orderNumbers, parts, partNumbers, stages, logNumbers, logsChanged, currentNumbers, changes, ends, endNumbers}
+use Rattle.cases.specs.HistoryCases.{lessened, orderNumbers, parts, partNumbers, stages, logNumbers, logsChanged, currentNumbers, changes, ends, endNumbers, leaves, leaveNumbers}
 use Rattle.model.proofs.Computing.{past-computes}
 
 pub orders-lessened : lessened ≡ placed (terms 7 Sell 9) 3 3 ∷ no-order ∷ no-order ∷ no-order ∷ []
@@ -60,3 +61,15 @@ rounds-at-stage = refl
 pub rounds-ended : map endNumbers ends ≡ ((7 ∷ []), []) ∷ ((7 ∷ []), []) ∷ ((9 ∷ []), []) ∷ ([], (9 ∷ [])) ∷ []
 unfolding ends past-computes
 rounds-ended = refl
+
+-- only in its own market's round while that collects is the ticket no longer one of the round's; its order stays, and nothing moves
+pub tickets-left
+    : map leaveNumbers leaves
+    ≡ ((2 ∷ 4 ∷ 5 ∷ []), (1 ∷ 0 ∷ 7 ∷ []), placed (terms 7 Buy 9) 3 6, replicate 6 0)
+    ∷ ((2 ∷ 4 ∷ 5 ∷ []), (2 ∷ 6 ∷ 7 ∷ []), placed (terms 7 Buy 9) 3 6, replicate 6 0)
+    ∷ ((2 ∷ 4 ∷ 5 ∷ []), (2 ∷ 6 ∷ 7 ∷ []), placed (terms 7 Buy 9) 3 6, replicate 6 0)
+    ∷ ((2 ∷ 4 ∷ 5 ∷ []), [], placed (terms 7 Buy 9) 3 6, replicate 6 0)
+    ∷ ((2 ∷ 4 ∷ 5 ∷ []), (2 ∷ 6 ∷ 7 ∷ []), placed (terms 7 Buy 9) 3 6, replicate 6 0)
+    ∷ []
+unfolding leaves past-computes
+tickets-left = refl

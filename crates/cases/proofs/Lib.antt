@@ -1,3 +1,4 @@
+pub mod Examples
 pub mod Pasts
 pub mod KindCases
 pub mod ClosingCases

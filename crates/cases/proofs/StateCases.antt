@@ -1,14 +1,19 @@
 -- What is read off a state and the changes of a round, computed.
 use Prim.Native.Nat.{ℕ}
 use mathlib.Core.Bool.{true, false}
-use mathlib.Core.Path.{_≡_, ap, refl}
+use mathlib.Core.Path.{_≡_, ap, refl, subst}
 use mathlib.Core.List.{[], _∷_, map}
 use Rattle.pricing.specs.declared.Side.the-variants.{Buy, Sell}
 use Rattle.model.specs.declared.state.TicketState.the-variants.{Free, Resting, Entered}
 use Rattle.model.specs.declared.state.Phase.the-variants.{Closed, Collect, Auction, Paying}
-use Rattle.model.specs.State.{freshExchange, blankRound, orderIn, restingOr, roundIn, totalsOf}
+use Rattle.pricing.specs.declared.Totals.{Totals}
+use Rattle.model.specs.declared.state.TicketState.{TicketState}
+use Rattle.model.specs.declared.call.Call.the-variants.{Enter, Leave}
+use Rattle.model.specs.State.{freshExchange, blankRound, orderIn, restingOr, phase, roundIn, totalsOf}
+use Rattle.model.specs.Calls.{accept}
+use Rattle.model.specs.Run.{stepOf}
 use Rattle.cases.specs.Literals.{order}
-use Rattle.cases.specs.StateCases.{sizes, ticketTests, phaseTests, numbered, totalsFields, roundFields, roundsChanged, stateNumbers, statesChanged}
+use Rattle.cases.specs.StateCases.{sizes, ticketTests, phaseTests, numbered, totalsFields, roundFields, roundsChanged, stateNumbers, statesChanged, EnterLeaveUsed, entering, leaving}
 use Rattle.ledger.proofs.Laws.{fresh-all-zero}
 use Rattle.model.proofs.Computing.{call-computes}
 
@@ -46,10 +51,12 @@ pub rounds-changed
     ∷ (1 ∷ 2 ∷ 3 ∷ 4 ∷ 5 ∷ 6 ∷ 7 ∷ 8 ∷ 9 ∷ 10 ∷ 11 ∷ 12 ∷ 13 ∷ 14 ∷ 20 ∷ [])
     ∷ (1 ∷ 2 ∷ 3 ∷ 4 ∷ 5 ∷ 6 ∷ 7 ∷ 20 ∷ 21 ∷ 22 ∷ 23 ∷ 24 ∷ 25 ∷ 14 ∷ 15 ∷ [])
     ∷ (1 ∷ 2 ∷ 3 ∷ 4 ∷ 5 ∷ 6 ∷ 7 ∷ 8 ∷ 9 ∷ 10 ∷ 11 ∷ 12 ∷ 13 ∷ 20 ∷ 21 ∷ [])
+    ∷ (1 ∷ 2 ∷ 3 ∷ 4 ∷ 5 ∷ 6 ∷ 5 ∷ 1 ∷ 9 ∷ 10 ∷ 11 ∷ 12 ∷ 13 ∷ 7 ∷ 15 ∷ [])
+    ∷ (1 ∷ 2 ∷ 3 ∷ 4 ∷ 5 ∷ 6 ∷ 3 ∷ 8 ∷ 9 ∷ 10 ∷ 6 ∷ 12 ∷ 13 ∷ 14 ∷ 10 ∷ [])
     ∷ (21 ∷ 23 ∷ 24 ∷ 22 ∷ 20 ∷ 0 ∷ 0 ∷ 0 ∷ 0 ∷ 0 ∷ 0 ∷ 0 ∷ 0 ∷ 0 ∷ 0 ∷ [])
     ∷ (0 ∷ 0 ∷ 0 ∷ 0 ∷ 0 ∷ 0 ∷ 0 ∷ 0 ∷ 0 ∷ 0 ∷ 0 ∷ 0 ∷ 0 ∷ 0 ∷ 0 ∷ [])
     ∷ []
-unfolding roundsChanged
+unfolding roundsChanged call-computes
 rounds-changed = refl
 
 pub states-changed
@@ -67,3 +74,14 @@ pub states-changed
     ∷ []
 unfolding statesChanged call-computes
 states-changed = refl
+
+pub enter-leave-used : EnterLeaveUsed
+enter-leave-used =
+    record {
+      enter-leave = λ h x r e a.
+          subst (λ (t : TicketState). stepOf (stepOf x (Enter 63) .exchange) (Leave 63 (orderIn t .member)) ≡ accept (orderIn t .offer .0) 0 x) e (h x r 63 12 0 a);
+      leave-enter = λ h x r e g a.
+          subst (λ (t : Totals). stepOf (stepOf x (Leave 63 15) .exchange) (Enter 63) ≡ accept (t .total .0) 0 x) g
+          (subst (λ (t : TicketState). stepOf (stepOf x (Leave 63 15) .exchange) (Enter 63) ≡ accept (totalsOf (roundIn (phase x (orderIn t .market))) (orderIn t .side) .total .0) 0 x) e (h x r 63 15 5 0 a));
+      enter-forgotten = λ h qs. h qs entering leaving 63 15 refl refl 12 0 5 0;
+    }

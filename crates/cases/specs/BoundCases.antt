@@ -1,11 +1,12 @@
 -- States that the bounds refuse, each one unit off at the last place it speaks of, the last token, member, ticket and market, and within every
--- other bound.
+-- other bound but where it is said.
 use Prim.Native.Nat.{ℕ}
 use lib.ListN.{replicate, set}
 use Rattle.units.specs.Counts.{amount, price}
 use Rattle.pricing.specs.declared.Side.the-variants.{Buy, Sell}
 use Rattle.pricing.specs.declared.Totals.{Totals}
 use Rattle.ledger.specs.declared.Row.{Row}
+use Rattle.model.specs.declared.state.Order.{Order}
 use Rattle.model.specs.declared.state.TicketState.{TicketState}
 use Rattle.model.specs.declared.state.TicketState.the-variants.{Resting, Entered}
 use Rattle.model.specs.declared.state.Round.{Round}
@@ -67,6 +68,16 @@ overFirst =
     (withPhase (withTicket (credit (withSupply freshExchange 1 3) 0 1 1) 0 (Resting (order 0 1 Sell 1 1))) 1 (Collect (selling (totals 1 0 0) 0 1)))
     1 1
 
+-- ticket 63 in market 3's round, which collects: with any order, where the sells offer 1; and with an offer of 5, in any round
+abbrev pub enteredWith : Order → Exchange
+enteredWith o = withTicket (atMarket (Collect (marking (selling (totals 1 0 0) 0 1)))) 63 (Entered o)
+
+abbrev pub collectingSell : Round → Exchange
+collectingSell r = withTicket (atMarket (Collect r)) 63 (Entered (order 15 3 Sell 1 5))
+
+abbrev pub collectingBuy : Round → Exchange
+collectingBuy r = withTicket (atMarket (Collect r)) 63 (Entered (order 15 3 Buy 1 5))
+
 -- ticket 63 in market 3's round, which pays
 abbrev pub payingSell : Round → Exchange
 payingSell r = withTicket (atMarket (Paying r)) 63 (Entered (order 15 3 Sell 1 5))
@@ -86,17 +97,17 @@ pub record BoundsRefused : Type 0 where
   pub over-quote : NotBounded overQuote
   pub over-base : NotBounded overBase
   pub over-supply : NotBounded (withSupply freshExchange 3 4294967296)
-  -- orders: member 16, market 0, market 4, limit 0, offer 0
+  -- orders: member 16, market 0, market 4, limit 0, offer 0; one of no market is in no round, which two bounds refuse
   pub resting-member : NotBounded (atTicket (Resting (order 16 3 Sell 1 1)))
   pub resting-market-0 : NotBounded (atTicket (Resting (order 15 0 Sell 1 1)))
   pub resting-market-4 : NotBounded (atTicket (Resting (order 15 4 Sell 1 1)))
   pub resting-limit : NotBounded (atTicket (Resting (order 15 3 Sell 0 1)))
   pub resting-offer : NotBounded (atTicket (Resting (order 15 3 Sell 1 0)))
-  pub entered-member : NotBounded (atTicket (Entered (order 16 3 Sell 1 1)))
+  pub entered-member : NotBounded (enteredWith (order 16 3 Sell 1 1))
   pub entered-market-0 : NotBounded (atTicket (Entered (order 15 0 Sell 1 1)))
   pub entered-market-4 : NotBounded (atTicket (Entered (order 15 4 Sell 1 1)))
-  pub entered-limit : NotBounded (atTicket (Entered (order 15 3 Sell 0 1)))
-  pub entered-offer : NotBounded (atTicket (Entered (order 15 3 Sell 1 0)))
+  pub entered-limit : NotBounded (enteredWith (order 15 3 Sell 0 1))
+  pub entered-offer : NotBounded (enteredWith (order 15 3 Sell 1 0))
   -- terms: lo 0, lo above r, r above hi, hi above 1,500,000,000, L 0, L 65
   pub lo-zero : NotBounded (atMarket (Paying (openedBetween 0 2 64 (price 3) (price 0))))
   pub lo-high : NotBounded (atMarket (Paying (openedBetween 0 2 64 (price 3) (price 3))))
@@ -128,22 +139,28 @@ pub record BoundsRefused : Type 0 where
   -- a ticket marked that rests, which two bounds refuse, one that is free, and one that entered another market
   pub rests-marked : NotBounded (withTicket (atMarket (Collect (marking plainRound))) 63 (Resting (order 15 3 Buy 1 1)))
   pub marked-free : NotBounded (atMarket (Collect (marking plainRound)))
-  pub marked-other : NotBounded (withTicket (atMarket (Collect (marking plainRound))) 63 (Entered (order 15 2 Buy 1 1)))
-  -- a claim of 5, not marked, above its side's total, or not held: T 10, P 7, G 7 pay 4 and get 3
-  pub not-marked : NotBounded (payingSell (selling (totals 10 7 7) 9 9))
-  pub above-total : NotBounded (payingSell (marking (selling (totals 4 4 4) 9 9)))
+  pub marked-other : NotBounded (withPhase (withTicket (atMarket (Collect (marking plainRound))) 63 (Entered (order 15 2 Buy 1 1))) 2 (Collect (marking (buying (totals 1 0 0) 1 0))))
+  -- a ticket that entered, not marked or above its side's total, while its round collects and once it pays, or in a market that is closed
+  pub entered-unmarked : NotBounded (collectingSell (selling (totals 5 0 0) 0 5))
+  pub entered-sell-over : NotBounded (collectingSell (marking (selling (totals 4 0 0) 0 4)))
+  pub entered-buy-over : NotBounded (collectingBuy (marking (buying (totals 4 0 0) 4 0)))
+  pub paying-unmarked : NotBounded (payingSell (selling (totals 10 7 7) 9 9))
+  pub paying-over : NotBounded (payingSell (marking (selling (totals 4 4 4) 9 9)))
+  pub entered-closed : NotBounded (atTicket (Entered (order 15 3 Sell 1 5)))
+  -- a claim of 5 that is not held: T 10, P 7, G 7 pay 4 and get 3
   pub sell-refund : NotBounded (payingSell (marking (selling (totals 10 7 7) 9 0)))
   pub sell-payment : NotBounded (payingSell (marking (selling (totals 10 7 7) 2 9)))
   pub buy-refund : NotBounded (payingBuy (marking (buying (totals 10 7 7) 0 9)))
   pub buy-payment : NotBounded (payingBuy (marking (buying (totals 10 7 7) 9 2)))
   -- one that pays 6 where it offers 5; no share does, since no side pays above its total
-  pub pays-over : ClaimBounds (marking (selling (totals 10 7 7) 9 9)) 63 (order 15 3 Sell 1 5) 6 3 → ⊥
+  pub pays-over : ClaimBounds (marking (selling (totals 10 7 7) 9 9)) (order 15 3 Sell 1 5) 6 3 → ⊥
   -- opened or started after the last block, 7
   pub opened-later : NotBounded (withBlock (atMarket (Collect (openedBetween 8 2 64 (price 3) (price 1)))) 7)
   pub started-later : NotBounded (withBlock (atMarket (Auction (withStart plainRound 8))) 7)
   -- and in market 1
   pub over-first : NotBounded overFirst
   pub first-length : NotBounded (withPhase freshExchange 1 (Paying (openedBetween 0 2 65 (price 3) (price 1))))
+  pub first-entered : NotBounded (withTicket supplied 0 (Entered (order 0 1 Buy 1 1)))
   pub first-marked : NotBounded (withPhase freshExchange 1 (Collect (withTickets plainRound 1)))
   pub first-opened : NotBounded (withBlock (withPhase freshExchange 1 (Collect (openedBetween 8 2 64 (price 3) (price 1)))) 7)
   pub first-started : NotBounded (withBlock (withPhase freshExchange 1 (Auction (withStart plainRound 8))) 7)

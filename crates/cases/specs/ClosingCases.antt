@@ -14,7 +14,7 @@ use Rattle.model.specs.Run.{stepOf, Reachable}
 use Rattle.model.specs.Closing.{afterCalls, AllAccepted, Names, BackToClosed, WindsUp, CanClose, SettleCloses}
 use Rattle.model.specs.Scripts.{callsOf}
 use Rattle.model.specs.Day.{untilMatch}
-use Rattle.model.specs.Examples.{lastBlocks}
+use Rattle.cases.specs.Examples.{lastBlocks}
 
 -- ---- the states
 

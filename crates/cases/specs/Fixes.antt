@@ -1,5 +1,6 @@
--- What the whole-run statement fixes, in numbers: of any engine that gave the answers of the day until its settle, or those of the last places
--- until theirs or to their end, the readings of the state that the engine left, from the first to the last token, member, ticket and market.
+-- What the whole-run statement fixes, in numbers: of any engine that gave the answers of the day until its settle, those of the last places
+-- until theirs or to their end, or those of the tickets that left, the readings of the state that the engine left, from the first to the last
+-- token, member, ticket and market.
 use Prim.Native.Nat.{ℕ, _+_}
 use mathlib.Core.Path.{_≡_}
 use mathlib.Core.List.{List, [], _∷_, _++_}
@@ -16,7 +17,7 @@ use Rattle.model.specs.History.{History, historyOf}
 use Rattle.model.specs.WholeRun.{balances, resting, Whole}
 use Rattle.model.specs.Scripts.{Line, accepted, refused, balance-is, supply-is, residue-is, closed-is}
 use Rattle.model.specs.Day.{untilSettle, printed}
-use Rattle.model.specs.Examples.{lastPlacesEnded, lastPlacesSettled, lastPlaces}
+use Rattle.cases.specs.Examples.{lastPlacesEnded, lastPlacesSettled, lastPlaces, sellsLeft}
 use Rattle.cases.specs.Literals.{order}
 use Rattle.cases.specs.KindCases.{claimRequest}
 
@@ -104,6 +105,25 @@ pub record PaidFixed (x : Exchange) : Type 0 where
 
 abbrev pub FixesPaid : Type 0
 FixesPaid = (f : Engine) (x : Exchange) → Whole f x toldPaid → PaidFixed x
+
+-- tickets 63 and 5 left market 3's round, which holds 35 quote and 98 base
+abbrev pub toldLeft : History
+toldLeft = historyOf (told sellsLeft)
+
+pub record LeftFixed (x : Exchange) : Type 0 where
+  -- those that left rest with their offers, those that stayed are in the round
+  pub ticket-63 : ticket x 63 ≡ Resting (order 15 3 Sell 2250000 170)
+  pub ticket-5 : ticket x 5 ≡ Resting (order 13 3 Buy 2750000 240)
+  pub ticket-62 : ticket x 62 ≡ Entered (order 14 3 Sell 2250000 90)
+  pub ticket-6 : ticket x 6 ≡ Entered (order 13 3 Buy 2750000 35)
+  -- 380 - 35 and 300 - 98
+  pub sum-0 : balances x 0 + resting x 0 ≡ 345
+  pub sum-3 : balances x 3 + resting x 3 ≡ 202
+  pub seller-3 : balance x 15 3 ≡ 30
+  pub buyer-0 : balance x 13 0 ≡ 25
+
+abbrev pub FixesLeft : Type 0
+FixesLeft = (f : Engine) (x : Exchange) → Whole f x toldLeft → LeftFixed x
 
 -- the answers that the day prints, beside its lines
 unfoldable pub answered : List Call → List (ℕ × ℕ × ℕ) → List Event

@@ -2,9 +2,11 @@
 -- equal numbers.
 use Prim.Native.Nat.{ℕ}
 use mathlib.Core.List.{List, [], _∷_, map}
+use lib.ListN.{length}
 use Rattle.pricing.specs.declared.Side.the-variants.{Buy, Sell}
+use Rattle.model.specs.declared.call.Call.the-variants.{Leave}
 use Rattle.model.specs.Sides.{bySide}
-use Rattle.model.specs.History.{PlacedOrder, no-order, placed, lessPaid, termsIn, marketIn, offeredIn, wantedIn, Part, absent, waiting, claimed, offerOn, movedOut, isTicket, isWaiting, Stage, collecting, auctioning, settled, RoundLog, emptyLog, setStage, setPart, setM, setC, setBidBase, setBidQuote, withPart, withMatch, withSettle, withBid, changedAt, endedAt, roundBegun, Current, idle, running, EndedRound, History, noHistory, withRound}
+use Rattle.model.specs.History.{PlacedOrder, no-order, placed, lessPaid, termsIn, marketIn, offeredIn, wantedIn, Part, absent, waiting, claimed, offerOn, movedOut, isTicket, isWaiting, ticketCount, Stage, collecting, auctioning, settled, RoundLog, emptyLog, setStage, setPart, setM, setC, setBidBase, setBidQuote, withPart, withMatch, withSettle, withBid, changedAt, endedAt, roundBegun, Current, idle, running, EndedRound, History, noHistory, withOrder, withRound, withAccepted}
 use Rattle.cases.specs.Literals.{terms}
 
 -- an order of market 3 with 5 left after it paid 2, 5 and 6; no order
@@ -112,3 +114,35 @@ ends =
 -- the round at market 3, and those that ended
 abbrev pub endNumbers : History → List ℕ × List ℕ
 endNumbers y = (currentNumbers (y .rounds 3), map (λ (e : EndedRound). e .log .m) (y .ended))
+
+-- tickets 63 and 62 in market 2's round, which collects, and in market 3's at a stage, each with an offer of its own; ticket 63's order is of
+-- market 3
+abbrev pub twoTickets : Stage → (first second : ℕ) → Current
+twoTickets g first second = running (withPart (withPart (setStage emptyLog g) 63 (waiting (terms 7 Buy 9) first)) 62 (waiting (terms 8 Buy 9) second))
+
+abbrev pub enteredAt : Stage → History
+enteredAt g = withOrder (withRound (withRound noHistory 2 (twoTickets collecting 4 5)) 3 (twoTickets g 6 7)) 63 (placed (terms 7 Buy 9) 3 6)
+
+-- ticket 63 leaves, with any member in the call: while its round collects, at the other stages, and where no round runs; then a ticket
+-- without an order
+unfoldable pub leaves : List History
+leaves =
+    withAccepted (enteredAt collecting) (Leave 63 62) 6 0
+    ∷ withAccepted (enteredAt auctioning) (Leave 63 62) 6 0
+    ∷ withAccepted (enteredAt settled) (Leave 63 62) 6 0
+    ∷ withAccepted (withRound (enteredAt collecting) 3 idle) (Leave 63 62) 6 0
+    ∷ withAccepted (enteredAt collecting) (Leave 62 63) 6 0
+    ∷ []
+
+-- how many tickets a round has, and the offers of 63 and 62
+abbrev pub offersIn : Current → List ℕ
+offersIn idle = []
+offersIn (running b) = ticketCount b ∷ offerOn Buy (b .part 63) ∷ offerOn Buy (b .part 62) ∷ []
+
+-- what came to and went from member 7 in quote and in market 3's base, claims, and rounds that ended
+abbrev pub movedIn : History → List ℕ
+movedIn y = y .credits 7 0 ∷ y .credits 7 3 ∷ y .debits 7 0 ∷ y .debits 7 3 ∷ length (y .payouts) ∷ length (y .ended) ∷ []
+
+-- the offers in markets 2 and 3, ticket 63's order, and what moved
+abbrev pub leaveNumbers : History → List ℕ × List ℕ × PlacedOrder × List ℕ
+leaveNumbers y = (offersIn (y .rounds 2), offersIn (y .rounds 3), y .orders 63, movedIn y)

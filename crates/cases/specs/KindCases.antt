@@ -1,5 +1,5 @@
--- Kinds, fields, codes and answers in numbers: ten calls whose fields are all different, the codes that each tests, and the number of every
--- refusal.
+-- Kinds, fields, codes and answers in numbers: a call of each kind whose fields are all different, the codes that it tests, and the number of
+-- every refusal.
 use Prim.Native.Nat.{ℕ, zero, suc, _+_, _-_}
 use mathlib.Core.Path.{_≡_}
 use mathlib.Core.List.{List, [], _∷_, map}
@@ -7,48 +7,50 @@ use mathlib.Core.Option.{Option}
 use Rattle.units.specs.Decide.{Test}
 use Rattle.model.specs.declared.state.Exchange.{Exchange}
 use Rattle.model.specs.declared.call.Call.{Call}
-use Rattle.model.specs.declared.call.Call.the-variants.{Deposit, Withdraw, Order, Cancel, Open, Enter, Match, Bid, Settle, Claim}
+use Rattle.model.specs.declared.call.Call.the-variants.{Deposit, Withdraw, Order, Cancel, Open, Enter, Match, Bid, Settle, Claim, Leave}
 use Rattle.model.specs.declared.answer.Refusal.{Refusal}
 use Rattle.model.specs.declared.answer.Refusal.the-variants as Refusal
 use Rattle.model.specs.declared.answer.Answer.{Answer}
 use Rattle.model.specs.declared.answer.Answer.the-variants.{Accepted, Refused}
 use Rattle.model.specs.Answers.{refusalCode, codeOf, firstOf, secondOf}
-use Rattle.model.specs.Calls.{depositOf, withdrawOf, orderOf, cancelOf, openOf, enterOf, matchOf, bidOf, settleOf, claimOf, testsOf, doneOf, refuse}
+use Rattle.model.specs.Calls.{depositOf, withdrawOf, orderOf, cancelOf, openOf, enterOf, matchOf, bidOf, settleOf, claimOf, leaveOf, testsOf, doneOf, refuse}
 use Rattle.model.specs.Run.{stepOf, Request, requestOf}
 use Rattle.model.specs.Kinds.{Kind, fromFields}
 
--- "The ten calls, by kind number and fields"
-unfoldable pub tenCalls : List Call
-tenCalls =
-    Deposit 11 12 13
-    ∷ Withdraw 11 12 13
-    ∷ Order 11 12 13 14 15 16
-    ∷ Cancel 11 12
-    ∷ Open 11 12 13 14 15
-    ∷ Enter 11
-    ∷ Match 11 12
-    ∷ Bid 11 12 13 14 15 16
-    ∷ Settle 11 12
-    ∷ Claim 11
+-- "The ten calls, by kind number and fields", and leave
+unfoldable pub eachCall : List Call
+eachCall =
+    Deposit 21 22 23
+    ∷ Withdraw 21 22 23
+    ∷ Order 21 22 23 24 25 26
+    ∷ Cancel 21 22
+    ∷ Open 21 22 23 24 25
+    ∷ Enter 21
+    ∷ Match 21 22
+    ∷ Bid 21 22 23 24 25 26
+    ∷ Settle 21 22
+    ∷ Claim 21
+    ∷ Leave 21 22
     ∷ []
 
-unfoldable pub tenNumbers : List (List ℕ)
-tenNumbers =
-    (1 ∷ 11 ∷ 12 ∷ 13 ∷ [])
-    ∷ (2 ∷ 11 ∷ 12 ∷ 13 ∷ [])
-    ∷ (3 ∷ 11 ∷ 12 ∷ 13 ∷ 14 ∷ 15 ∷ 16 ∷ [])
-    ∷ (4 ∷ 11 ∷ 12 ∷ [])
-    ∷ (5 ∷ 11 ∷ 12 ∷ 13 ∷ 14 ∷ 15 ∷ [])
-    ∷ (6 ∷ 11 ∷ [])
-    ∷ (7 ∷ 11 ∷ 12 ∷ [])
-    ∷ (8 ∷ 11 ∷ 12 ∷ 13 ∷ 14 ∷ 15 ∷ 16 ∷ [])
-    ∷ (9 ∷ 11 ∷ 12 ∷ [])
-    ∷ (10 ∷ 11 ∷ [])
+unfoldable pub eachNumbers : List (List ℕ)
+eachNumbers =
+    (1 ∷ 21 ∷ 22 ∷ 23 ∷ [])
+    ∷ (2 ∷ 21 ∷ 22 ∷ 23 ∷ [])
+    ∷ (3 ∷ 21 ∷ 22 ∷ 23 ∷ 24 ∷ 25 ∷ 26 ∷ [])
+    ∷ (4 ∷ 21 ∷ 22 ∷ [])
+    ∷ (5 ∷ 21 ∷ 22 ∷ 23 ∷ 24 ∷ 25 ∷ [])
+    ∷ (6 ∷ 21 ∷ [])
+    ∷ (7 ∷ 21 ∷ 22 ∷ [])
+    ∷ (8 ∷ 21 ∷ 22 ∷ 23 ∷ 24 ∷ 25 ∷ 26 ∷ [])
+    ∷ (9 ∷ 21 ∷ 22 ∷ [])
+    ∷ (10 ∷ 21 ∷ [])
+    ∷ (11 ∷ 21 ∷ 22 ∷ [])
     ∷ []
 
--- from "Why a call is turned down": 1 to 5 where the call has the field, and those that name its kind
-unfoldable pub tenCodes : List (List ℕ)
-tenCodes =
+-- from "Why a call is turned down": 1 to 5 where the call has the field, and those that name its kind; of leave "1, 4, 8 as for cancel", 9 and 11
+unfoldable pub eachCodes : List (List ℕ)
+eachCodes =
     (1 ∷ 2 ∷ 6 ∷ 14 ∷ [])
     ∷ (1 ∷ 2 ∷ 6 ∷ 19 ∷ [])
     ∷ (1 ∷ 3 ∷ 4 ∷ 5 ∷ 6 ∷ 7 ∷ 19 ∷ [])
@@ -59,6 +61,7 @@ tenCodes =
     ∷ (1 ∷ 3 ∷ 5 ∷ 6 ∷ 11 ∷ 12 ∷ 16 ∷ 17 ∷ 18 ∷ 19 ∷ [])
     ∷ (3 ∷ 11 ∷ 12 ∷ 13 ∷ [])
     ∷ (4 ∷ 8 ∷ 9 ∷ 11 ∷ [])
+    ∷ (1 ∷ 4 ∷ 8 ∷ 9 ∷ 11 ∷ [])
     ∷ []
 
 -- the codes of a call's tests, in their order
@@ -76,13 +79,13 @@ numbersFrom (suc n) a = a ∷ numbersFrom n (suc a)
 
 -- the call that a kind's row makes of its fields, of one more and of one fewer
 abbrev pub rowCall : Kind → Option Call
-rowCall k = fromFields (k .fields) (k .call) (numbersFrom (k .fields) 11)
+rowCall k = fromFields (k .fields) (k .call) (numbersFrom (k .fields) 21)
 
 abbrev pub rowMore : Kind → Option Call
-rowMore k = fromFields (k .fields) (k .call) (numbersFrom (k .fields + 1) 11)
+rowMore k = fromFields (k .fields) (k .call) (numbersFrom (k .fields + 1) 21)
 
 abbrev pub rowFewer : Kind → Option Call
-rowFewer k = fromFields (k .fields) (k .call) (numbersFrom (k .fields - 1) 11)
+rowFewer k = fromFields (k .fields) (k .call) (numbersFrom (k .fields - 1) 21)
 
 -- each call's own definition is the step of its kind, its fields in their order
 pub record CallSteps (x : Exchange) : Type 0 where
@@ -96,17 +99,27 @@ pub record CallSteps (x : Exchange) : Type 0 where
   pub bid-is : (market member at side n bound : ℕ) → bidOf x market member at side n bound ≡ stepOf x (Bid market member at side n bound)
   pub settle-is : (market at : ℕ) → settleOf x market at ≡ stepOf x (Settle market at)
   pub claim-is : (k : ℕ) → claimOf x k ≡ stepOf x (Claim k)
+  pub leave-is : (k member : ℕ) → leaveOf x k member ≡ stepOf x (Leave k member)
 
--- 21 in any state in which ticket 63's claim is answered with 4 and 3: its line 40 has 9 bytes
 abbrev pub claimRequest : (line room ticket : ℕ) → Request
 claimRequest line room k = record { line = line; room = room; call = Claim k }
 
+abbrev pub leaveRequest : (line room ticket member : ℕ) → Request
+leaveRequest line room k member = record { line = line; room = room; call = Leave k member }
+
+-- 21 in any state in which ticket 63's claim is answered with 4 and 3: its line 40 has 9 bytes; and where ticket 0's leave is answered with 600
+-- and 0: its line 17 has 11 bytes, and with fewer the ticket stays in the round
 pub record RoomUsed (x : Exchange) : Type 0 where
   pub short : requestOf x (claimRequest 40 8 63) ≡ refuse x Refusal.BufferTooShort
   pub enough : requestOf x (claimRequest 40 9 63) ≡ stepOf x (Claim 63)
 
-abbrev pub RoomsUsed : Type 0
-RoomsUsed = (x : Exchange) → stepOf x (Claim 63) .answer ≡ Accepted 4 3 → RoomUsed x
+pub record LeaveRoomUsed (x : Exchange) : Type 0 where
+  pub short : requestOf x (leaveRequest 17 10 0 0) ≡ refuse x Refusal.BufferTooShort
+  pub enough : requestOf x (leaveRequest 17 11 0 0) ≡ stepOf x (Leave 0 0)
+
+pub record RoomsUsed (x : Exchange) : Type 0 where
+  pub claim : stepOf x (Claim 63) .answer ≡ Accepted 4 3 → RoomUsed x
+  pub leave : stepOf x (Leave 0 0) .answer ≡ Accepted 600 0 → LeaveRoomUsed x
 
 -- ---- answers
 

@@ -1,4 +1,5 @@
 pub mod Literals
+pub mod Examples
 pub mod Pasts
 pub mod KindCases
 pub mod ClosingCases

@@ -16,7 +16,7 @@ use Rattle.model.specs.WholeRun.{balances, resting, inRounds, holdsOf}
 use Rattle.model.specs.Scripts.{callsOf, requests, historyAfter}
 use Rattle.model.specs.Day.{untilMatch, untilSettle, day}
 use Rattle.model.specs.Edges.{threeBuys}
-use Rattle.model.specs.Examples.{secondSettled, twoRounds, lateMatches, lastPlacesEnded, lastPlacesSettled, lastPlaces}
+use Rattle.cases.specs.Examples.{secondSettled, twoRounds, lateMatches, lastPlacesEnded, lastPlacesSettled, lastPlaces, sellsLeft, leftAndPaid}
 use Rattle.cases.specs.Literals.{order, terms, payout}
 
 -- ---- the numbers
@@ -203,6 +203,21 @@ pasts =
     -- a deposit of 90, the bid's 4 and 3 from a claim; the order of 80
     ∷ memberNumbers 14 3 17 97 80
     ∷ [])
+    -- tickets 63 and 5 have left market 3's round and rest, tickets 6, 61 and 62 are in it; market 1's round has none
+    ∷ pastWith (callsOf sellsLeft) [] []
+    (round 1 auctioning 0 0 0 0 (sums 0 0 0) (sums 0 0 0) (0 ∷ 0 ∷ 0 ∷ 0 ∷ [])
+    ∷ round 3 collecting 3 3 0 0 (sums 35 0 0) (sums 98 0 0) (35 ∷ 0 ∷ 0 ∷ 98 ∷ [])
+    ∷ [])
+    (tokenNumbers 0 105 240 35 0 0 380 ∷ tokenNumbers 3 32 170 98 0 0 300 ∷ [])
+    -- a leave brings its member nothing
+    (memberNumbers 15 3 30 200 170 ∷ memberNumbers 13 0 25 300 275 ∷ [])
+    -- both are back and ticket 62 has left for good, so that four tickets are paid; market 2's round has lost its only one
+    ∷ past (callsOf leftAndPaid)
+    (payout 14 Sell 2250000 7 15 ∷ payout 13 Buy 2750000 240 96 ∷ payout 13 Buy 2750000 35 14 ∷ payout 15 Sell 2250000 134 334 ∷ [])
+    (round 2 settled 0 0 0 0 (sums 0 0 0) (sums 0 0 0) (0 ∷ 0 ∷ 0 ∷ 0 ∷ [])
+    ∷ round 3 settled 4 0 110 275 (sums 275 275 110) (sums 178 140 350) (1 ∷ 0 ∷ 0 ∷ 1 ∷ [])
+    ∷ [])
+    (round 1 auctioning 0 0 0 0 (sums 0 0 0) (sums 0 0 0) (0 ∷ 0 ∷ 0 ∷ 0 ∷ []) ∷ [])
     -- ticket 63 rests with a sell
     ∷ pastWith (Deposit 15 3 9 ∷ Order 63 15 3 1 1000000 5 ∷ Order 0 15 3 1 1000000 1 ∷ []) [] [] [] (tokenNumbers 3 3 6 0 0 0 9 ∷ []) (memberNumbers 15 3 3 9 6 ∷ [])
     ∷ []

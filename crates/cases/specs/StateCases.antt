@@ -1,19 +1,26 @@
--- What is read off a state and the changes of a round, on data where every number is another.
+-- What is read off a state and the changes of a round, on data where every number is another; and what entering and leaving at once give.
 use Prim.Native.Nat.{ℕ}
 use mathlib.Core.Bool.{Bool}
-use mathlib.Core.List.{List, [], _∷_}
+use mathlib.Core.Path.{_≡_}
+use mathlib.Core.List.{List, [], _∷_, _++_}
 use lib.ListN.{length}
 use Rattle.units.specs.Counts.{amount, price, block}
-use Rattle.pricing.specs.declared.Side.the-variants.{Buy}
+use Rattle.pricing.specs.declared.Side.the-variants.{Buy, Sell}
 use Rattle.pricing.specs.declared.Totals.{Totals}
 use Rattle.model.specs.declared.state.TicketState.{TicketState}
-use Rattle.model.specs.declared.state.TicketState.the-variants.{Resting}
+use Rattle.model.specs.declared.state.TicketState.the-variants.{Resting, Entered}
 use Rattle.model.specs.declared.state.Round.{Round}
 use Rattle.model.specs.declared.state.Phase.{Phase}
 use Rattle.model.specs.declared.state.Phase.the-variants.{Collect, Paying}
 use Rattle.model.specs.declared.state.Exchange.{Exchange}
+use Rattle.model.specs.declared.call.Call.the-variants.{Enter, Leave}
+use Rattle.model.specs.declared.answer.Answer.the-variants.{Accepted}
 use Rattle.model.specs.State.{isFree, isEntered, isClosed, isCollect, isAuction, isPaying}
 use Rattle.model.specs.State.{withStart, withTickets, withBuys, withSells, withQuote, withBase, withSides, withHeld, openedBetween, blankRound, balance, supply, residue, lastBlock, ticket, orderIn, phase, roundIn, withSupply, withResidue, withTicket, withPhase, withBlock, credit, debit, toResidue, freshExchange}
+use Rattle.model.specs.Calls.{accept, leftRound}
+use Rattle.model.specs.Run.{stepOf, Reachable, Request, requestOf, eventsOf, stateAfter}
+use Rattle.model.specs.History.{historyOf}
+use Rattle.model.specs.EnterLeave.{EnterLeave, LeaveEnter, EnterForgotten}
 use Rattle.cases.specs.Literals.{order, totals}
 
 -- how many rows, supplies, residues, tickets and markets a state has
@@ -67,7 +74,8 @@ roundFields r =
     ∷ r .base .0
     ∷ []
 
--- with one thing changed, with both sides and all that it holds changed, as it opens at block 20 around 21 for 22 blocks, and blank
+-- with one thing changed, with both sides and all that it holds changed, without ticket 1's buy of 7, without ticket 2's sell of 5, as it opens
+-- at block 20 around 21 for 22 blocks, and blank
 unfoldable pub roundsChanged : List Round
 roundsChanged =
     withStart numbered 20
@@ -78,6 +86,8 @@ roundsChanged =
     ∷ withBase numbered 20
     ∷ withSides numbered (totals 20 21 22) (totals 23 24 25)
     ∷ withHeld numbered 20 21
+    ∷ leftRound numbered 1 Buy 7
+    ∷ leftRound numbered 2 Sell 5
     ∷ openedBetween 20 21 22 (price 23) (price 24)
     ∷ blankRound
     ∷ []
@@ -117,3 +127,36 @@ statesChanged =
     ∷ withPhase numberedState 0 (Paying (openedBetween 0 0 20 (price 0) (price 0)))
     ∷ withBlock numberedState 20
     ∷ []
+
+-- ---- "Entering and leaving at once gives the very house that was there before"
+
+-- ticket 63 rests with its sell of 5, which would make the sells' total 12; or is in the round, whose sells' total is 12
+abbrev pub EntersAndLeaves : Type 0
+EntersAndLeaves =
+    (x : Exchange) → Reachable x → ticket x 63 ≡ Resting (order 15 3 Sell 9 5) → stepOf x (Enter 63) .answer ≡ Accepted 12 0
+    → stepOf (stepOf x (Enter 63) .exchange) (Leave 63 15) ≡ accept 5 0 x
+
+abbrev pub LeavesAndEnters : Type 0
+LeavesAndEnters =
+    (x : Exchange) → Reachable x → ticket x 63 ≡ Entered (order 15 3 Sell 9 5) → roundIn (phase x 3) .sells ≡ totals 12 0 0
+    → stepOf x (Leave 63 15) .answer ≡ Accepted 5 0
+    → stepOf (stepOf x (Leave 63 15) .exchange) (Enter 63) ≡ accept 12 0 x
+
+-- ticket 63 enters on line 40 and leaves on line 41, after any list
+abbrev pub entering : Request
+entering = record { line = 40; room = 10; call = Enter 63 }
+
+abbrev pub leaving : Request
+leaving = record { line = 41; room = 9; call = Leave 63 15 }
+
+abbrev pub EntersForgotten : Type 0
+EntersForgotten =
+    (qs : List Request)
+    → let x : Exchange = stateAfter requestOf freshExchange qs in
+    requestOf x entering .answer ≡ Accepted 12 0 → requestOf (requestOf x entering .exchange) leaving .answer ≡ Accepted 5 0
+    → historyOf (eventsOf requestOf freshExchange (qs ++ (entering ∷ leaving ∷ []))) ≡ historyOf (eventsOf requestOf freshExchange qs)
+
+pub record EnterLeaveUsed : Type 0 where
+  pub enter-leave : EnterLeave → EntersAndLeaves
+  pub leave-enter : LeaveEnter → LeavesAndEnters
+  pub enter-forgotten : EnterForgotten → EntersForgotten

@@ -110,6 +110,11 @@ module _ (h : Exchange) (y : History) (i : Inv h y) (k : AllMarked h) where
       let got : ℕ = gotIn r o in
       claim-marked h (credit (withTicket h a (restingOr o (o .offer .0 - s))) (o .member) (wanted (o .side) (o .market)) got) (o .market)
       (claimedRound r a (o .side) (o .offer .0 - s) got) k (λ n. refl) (ok .market-low) (size (o .market) (ok .market-high))
+  done-marked (Call.Leave a m) p =
+      let ha : a < 64 = omega (arith, ltb-false 63 a (p .1 .0)) in
+      let o : Order = orderIn (ticket h a) in
+      let ok : OrderBounds o = subst TicketBounds (entered-is (ticket h a) (not-false (isEntered (ticket h a)) (p .1 .1 .1 .0))) (i .ticket-bounds a ha) in
+      record { marked = marked-set h h (o .market) (Collect _) k (λ n. refl) (ok .market-low) (size (o .market) (ok .market-high)) tt .marked }
 
   step-marked : (c : Call) → AllMarked (stepOf h c .exchange)
   step-marked c = step-apart h c (λ (out : Outcome). AllMarked (out .exchange)) (λ r. k) (done-marked c)

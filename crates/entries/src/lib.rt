@@ -79,7 +79,7 @@ fn joined_round(r: Round, ticket: u32, side: Side, offer: Amount) -> Round
 }
 
 // A refusal leaves the ticket and its market.
-fn refused(t: Ticket, market: Market, why: Refusal) -> Joined
+pub fn refused(t: Ticket, market: Market, why: Refusal) -> Joined
     ensures { λ r. ⌜ r ≡ refusedJoined t market why ⌝ }
 {
     Joined {

@@ -1,6 +1,6 @@
 // The calls by value, each in a state that calls can leave. A call's work is done on the parts that it touches, and the parts are put back.
 ghost use mathlib.Core.Path.{_≡_};
-ghost use Rattle.model.specs.Calls.{depositOf, withdrawOf, orderOf, cancelOf, openOf, enterOf, matchOf, bidOf, settleOf, claimOf};
+ghost use Rattle.model.specs.Calls.{depositOf, withdrawOf, orderOf, cancelOf, openOf, enterOf, matchOf, bidOf, settleOf, claimOf, leaveOf};
 ghost use Rattle.model.specs.Run.{Reachable, stepOf};
 ghost use Rattle.work.specs.Work.{workDone, PlacesExist};
 ghost use Rattle.work.specs.declared.Work.the-variants.{Account, Market, Entry, Claim};
@@ -315,4 +315,12 @@ pub fn claim(x: Exchange, ticket: u32) -> Outcome
     ensures { λ r. ⌜ r ≡ claimOf x ticket ⌝ }
 {
     step(x, Call::Claim { ticket })
+}
+
+// 11 Leave.
+pub fn leave(x: Exchange, ticket: u32, member: u32) -> Outcome
+    requires { ⌜ Reachable x ⌝ }
+    ensures { λ r. ⌜ r ≡ leaveOf x ticket member ⌝ }
+{
+    step(x, Call::Leave { ticket, member })
 }

@@ -73,7 +73,7 @@ pub fn order_form(ticket: u32, member: u32, market: u32, side: u32, limit: u32, 
     Form::Good
 }
 
-// Cancel.
+// Cancel and leave.
 pub fn cancel_form(ticket: u32, member: u32) -> Form
     ensures { λ r. ⌜ r ≡ formOf (cancelForm ticket member) ⌝ }
 {

@@ -23,7 +23,7 @@ use Rattle.lines.specs.declared.call.Reading.the-variants.{Read, NoCall}
 use Rattle.lines.specs.declared.call.LineAt.{LineAt}
 use Rattle.lines.specs.CallLines.{readIn, ofKind, callOf, callOfNumbers, readingOf, lineIn, lineAt}
 
--- ---- the ten kinds
+-- ---- the kinds
 
 -- the call that kind j makes of the fields
 pub of-kind : (k j : ℕ) (fields : List ℕ) (c : Call) → readIn kinds j fields ≡ Read c → k ≡ j → Read c ≡ ofKind k fields
@@ -40,9 +40,9 @@ pub no-one : (k a : ℕ) → (k ≡ 6 → ⊥) → (k ≡ 10 → ⊥) → NoCall
 unfolding ofKind
 no-one k a h6 h10 = simp (ne-eqb k 6 h6, ne-eqb k 10 h10, cond-same)
 
-pub no-two : (k a b : ℕ) → (k ≡ 4 → ⊥) → (k ≡ 7 → ⊥) → (k ≡ 9 → ⊥) → NoCall ≡ ofKind k (a ∷ (b ∷ []))
+pub no-two : (k a b : ℕ) → (k ≡ 4 → ⊥) → (k ≡ 7 → ⊥) → (k ≡ 9 → ⊥) → (k ≡ 11 → ⊥) → NoCall ≡ ofKind k (a ∷ (b ∷ []))
 unfolding ofKind
-no-two k a b h4 h7 h9 = simp (ne-eqb k 4 h4, ne-eqb k 7 h7, ne-eqb k 9 h9, cond-same)
+no-two k a b h4 h7 h9 h11 = simp (ne-eqb k 4 h4, ne-eqb k 7 h7, ne-eqb k 9 h9, ne-eqb k 11 h11, cond-same)
 
 pub no-three : (k a b c : ℕ) → (k ≡ 1 → ⊥) → (k ≡ 2 → ⊥) → NoCall ≡ ofKind k (a ∷ (b ∷ (c ∷ [])))
 unfolding ofKind

@@ -17,7 +17,7 @@ use Rattle.fields.specs.Grammar.{isDigit, allDigits, valueFrom, isNumber, numbe
 use Rattle.fields.proofs.Scan.{no-comma, low, high, value-more, all-more, number-good}
 use Rattle.fields.proofs.LineLaws.{line-short}
 use Rattle.model.specs.declared.call.Call.{Call}
-use Rattle.model.specs.declared.call.Call.the-variants.{Deposit, Withdraw, Order, Cancel, Open, Enter, Match, Bid, Settle, Claim}
+use Rattle.model.specs.declared.call.Call.the-variants.{Deposit, Withdraw, Order, Cancel, Open, Enter, Match, Bid, Settle, Claim, Leave}
 use Rattle.model.specs.Kinds.{Taking, Kind, fromFields, kinds, numbersOfCall}
 use Rattle.lines.specs.declared.call.Reading.the-variants.{Read, NoCall}
 use Rattle.lines.specs.CallLines.{reading, readIn, ofKind, callOf, callOfNumbers, readingOf, lineIn, lineAt}
@@ -267,6 +267,7 @@ remade (Match a b) = record { number = _; fields = _; is = refl; few = omega ari
 remade (Bid a b c d e f) = record { number = _; fields = _; is = refl; few = omega arith; call = refl }
 remade (Settle a b) = record { number = _; fields = _; is = refl; few = omega arith; call = refl }
 remade (Claim a) = record { number = _; fields = _; is = refl; few = omega arith; call = refl }
+remade (Leave a b) = record { number = _; fields = _; is = refl; few = omega arith; call = refl }
 
 -- every number of the call is at most 4,294,967,295, as in a Call of the code
 pub call-round : CallRound
@@ -307,7 +308,7 @@ AllWrite (k ∷ ks) = Writes (k .fields) (k .call) (k .number ∷ []) × AllWrit
 
 kinds-write : AllWrite kinds
 kinds-write =
-    (λ a b c. refl, (λ a b c. refl, (λ a b c d e f. refl, (λ a b. refl, (λ a b c d e. refl, (λ a. refl, (λ a b. refl, (λ a b c d e f. refl, (λ a b. refl, (λ a. refl, tt))))))))))
+    (λ a b c. refl, (λ a b c. refl, (λ a b c d e f. refl, (λ a b. refl, (λ a b c d e. refl, (λ a. refl, (λ a b. refl, (λ a b c d e f. refl, (λ a b. refl, (λ a. refl, (λ a b. refl, tt)))))))))))
 
 kind-written : (ks : List Kind) → AllWrite ks → (number : ℕ) (fields : List ℕ) (c : Call) → readIn ks number fields ≡ Read c → numbersOfCall c ≡ number ∷ fields
 kind-written [] w number fields c e = absurd (no-read c e)

@@ -68,6 +68,12 @@ fn with_2(kind: u32, a: u32, b: u32) -> Reading
             block: b,
         });
     }
+    if kind == 11 {
+        return Reading::Read(Call::Leave {
+            ticket: a,
+            member: b,
+        });
+    }
     Reading::NoCall
 }
 

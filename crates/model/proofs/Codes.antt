@@ -26,6 +26,7 @@ codes-rising x (Call.Match mk at) = record { step-is = refl; done-accepts = refl
 codes-rising x (Call.Bid mk m at sd n bound) = record { step-is = refl; done-accepts = refl; codes-are = refl; rising = omega arith }
 codes-rising x (Call.Settle mk at) = record { step-is = refl; done-accepts = refl; codes-are = refl; rising = omega arith }
 codes-rising x (Call.Claim k) = record { step-is = refl; done-accepts = refl; codes-are = refl; rising = omega arith }
+codes-rising x (Call.Leave k m) = record { step-is = refl; done-accepts = refl; codes-are = refl; rising = omega arith }
 
 pub rooms-first : RoomsFirst
 unfolding requestOf

@@ -28,7 +28,7 @@ use Rattle.ledger.proofs.Laws.{credits}
 use Rattle.model.proofs.Frames.{bounds-set, markets-set, placed-set, places-part, wanted-lt}
 use Rattle.model.proofs.Inv.{ClaimedOk, Inv, MarketOk, PartOk, RoundOk, WaitingOk, ended-at, entered-is, paying-is, running-is}
 use Rattle.model.proofs.Reading.{Sized, account-credit, fewer-of, inRounds-set, put-each, put-same, residue-plus, resting-set, sized-credit, sized-phase, sized-residue, sized-ticket, ticket-other, ticket-same}
-use Rattle.model.proofs.Rounds.{T-part, cameIn-part, covers, leaves, marks-count, marks-part, none-waiting, not-unclaimed, round-pays, wentOut-part}
+use Rattle.model.proofs.Rounds.{T-part, cameIn-part, covers, leaves, marks-count, marks-part, none-waiting, not-unclaimed, offer-within, round-pays, wentOut-part}
 use Rattle.pricing.proofs.Limits.{limit-kept}
 use Rattle.pricing.proofs.Shares.{paid-le-offer}
 use Rattle.ticket_set.proofs.Bits.{bit-removed-other, bit-removed-same, removed-lt}
@@ -38,14 +38,10 @@ use Rattle.model.specs.declared.call.Call.the-variants as Call
 
 -- ---- small facts, each by cases
 
-waiting-is : (q : Part) (terms : OrderTerms) (n : ℕ) → unclaimed q ≡ waiting terms n → q ≡ waiting terms n
+pub waiting-is : (q : Part) (terms : OrderTerms) (n : ℕ) → unclaimed q ≡ waiting terms n → q ≡ waiting terms n
 waiting-is absent terms n e = cc
 waiting-is (waiting terms′ n′) terms n e = e
 waiting-is (claimed terms′ n′ s g) terms n e = cc
-
-whenSame-self : (x : Side) (n : ℕ) → whenSame x x n ≡ n
-whenSame-self Buy n = refl
-whenSame-self Sell n = refl
 
 says-resting : (o : Order) (rest n : ℕ) → enteredIn (restingOr o rest) n ≡ absent
 says-resting o zero n = refl
@@ -111,14 +107,14 @@ module _ (h : Exchange) (y : History) (i : Inv h y) (k : ℕ) (hk : k < 64) (o :
   abbrev r1 : Round
   r1 = claimedRound r k side rest got
 
-  pub oOk : OrderBounds o
+  oOk : OrderBounds o
   oOk = subst TicketBounds et (i .ticket-bounds k hk)
 
-  pub rOk : RoundOk settled r b
+  rOk : RoundOk settled r b
   rOk = subst₂ MarketOk ep er (i .markets mk (oOk .market-low) (oOk .market-high))
 
   -- its part waits in the round
-  pub part-is : b .part k ≡ waiting terms n
+  part-is : b .part k ≡ waiting terms n
   part-is =
       waiting-is (b .part k) terms n
       (ap (λ (c : Current). unclaimed (partIn c k)) (sym er)
@@ -135,10 +131,8 @@ module _ (h : Exchange) (y : History) (i : Inv h y) (k : ℕ) (hk : k < 64) (o :
   got-is : got ≡ gotBy b terms n
   got-is = ap₂ (λ p t. shareGot n p t) (rOk .got side) (rOk .total side)
 
-  pub offer-le : n ≤ T b side
-  offer-le =
-      let e : offerOn side (b .part k) ≡ n = ap (offerOn side) part-is ∙ whenSame-self side n in
-      omega (arith, term-le 64 k (λ j. offerOn side (b .part j)) hk)
+  offer-le : n ≤ T b side
+  offer-le = offer-within b k hk terms n part-is
 
   T-pos : 0 < T b side
   T-pos = omega (arith, offer-le, oOk .offer)

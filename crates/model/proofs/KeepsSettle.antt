@@ -20,7 +20,7 @@ use Rattle.model.proofs.Frames.{inside, phase-keeps, markets-set, ticke
 use Rattle.model.proofs.Inv.{Inv, MarketOk, RoundOk, auction-is, ended-at, running-is}
 use Rattle.model.proofs.KeepsClaim.{pays}
 use Rattle.model.proofs.Reading.{inRounds-set, sized-block, sized-phase}
-use Rattle.model.proofs.Rounds.{absent-is, marks-count, none-waiting, not-unclaimed, part-early, round-pays}
+use Rattle.model.proofs.Rounds.{early-part, marks-count, none-waiting, not-unclaimed, part-early, round-pays}
 use Rattle.units.proofs.Decide.{Passed}
 use Rattle.units.proofs.Sums.{only-zero, sum-zero}
 use Rattle.model.specs.declared.call.Call.the-variants as Call
@@ -62,7 +62,7 @@ module _ (h : Exchange) (y : History) (i : Inv h y) (mk at : ℕ) (pos : 0 < mk)
   module _ (last : waitingCount b1 ≡ 0) where
     no-part : (k : ℕ) → k < 64 → b .part k ≡ absent
     no-part k l =
-        absent-is auctioning (λ e. e) (r .hi .0) (r .lo .0) b (b .part k) (rOk .parts k l) (not-unclaimed (b .part k) (none-waiting b1 last k l))
+        early-part auctioning (λ e. e) (r .hi .0) (r .lo .0) b (b .part k) (rOk .parts k l) ∙ not-unclaimed (b .part k) (none-waiting b1 last k l)
 
     no-tickets : ticketCount b1 ≡ 0
     no-tickets = sum-zero 64 _ (λ k l. ap isTicket (no-part k l))

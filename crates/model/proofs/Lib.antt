@@ -3,7 +3,6 @@ pub mod Steps
 pub mod Computing
 pub mod Edges
 pub mod Day
-pub mod Examples
 pub mod TicketOf
 pub mod Reading
 pub mod Inv
@@ -13,7 +12,7 @@ pub mod Rounds
 pub mod KeepsFunding
 pub mod KeepsOrders
 pub mod KeepsOpen
-pub mod KeepsEnter
+pub mod KeepsEntries
 pub mod KeepsMatch
 pub mod KeepsBid
 pub mod KeepsSettle
@@ -23,3 +22,4 @@ pub mod Reach
 pub mod ReachClock
 pub mod ReachBounds
 pub mod WindUp
+pub mod EnterLeave

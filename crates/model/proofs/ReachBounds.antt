@@ -1,13 +1,15 @@
 -- Every state that calls can leave is bounded as the code needs it.
 use Prim.Native.Nat.{_+_, _-_, _<_, _≤_, suc, zero, ℕ}
+use mathlib.Core.Bool.{Bool, cond}
 use mathlib.Core.Path.{_∙_, _≡_, ap, ap₂, refl, subst, sym}
 use native.Mathlib.Omega.{arith}
+use borrow.Author.Tests.{eq-eqb}
 use Rattle.model.specs.Calls.{gotIn, shareIn}
-use Rattle.model.specs.Bounds.{AuctionBounds, ClaimBounds, CollectBounds, OrderBounds, PhaseBounds, ReachableBounded, RoundBounds, TicketBounds, heldIn, heldOf}
-use Rattle.model.specs.History.{Current, History, Part, RoundLog, Stage, absent, auctioning, claimed, collecting, holds, idle, isWaiting, logOf, running, taken, waiting, wentOut, whenSame}
+use Rattle.model.specs.Bounds.{AuctionBounds, ClaimBounds, CollectBounds, EnteredBounds, OrderBounds, PhaseBounds, ReachableBounded, RoundBounds, TicketBounds, heldIn, heldOf}
+use Rattle.model.specs.History.{Current, History, OrderTerms, Part, RoundLog, Stage, absent, auctioning, claimed, collecting, holds, idle, isWaiting, logOf, running, taken, waiting, wentOut, whenSame}
 use Rattle.model.specs.Sides.{other}
 use Rattle.model.specs.State.{balance, isClosed, phase, residue, roundIn, supply, ticket, totalsOf}
-use Rattle.model.specs.WholeRun.{currentHolds, enteredIn, holdsOf, orderWith, partIn, resting, restingIn, restingTotal, roundsTotal, unclaimed}
+use Rattle.model.specs.WholeRun.{currentHolds, enteredIn, holdsOf, orderWith, partIn, resting, restingIn, restingTotal, roundsTotal, termsOf, unclaimed}
 use Rattle.model.specs.declared.state.Exchange.{Exchange}
 use Rattle.model.specs.declared.state.Order.{Order}
 use Rattle.model.specs.declared.state.Phase.{Phase}
@@ -21,10 +23,10 @@ use Rattle.ticket_set.specs.TicketSet.{bit}
 use Rattle.units.specs.Sums.{only}
 use Rattle.ledger.proofs.Laws.{balances-within}
 use Rattle.model.proofs.Inv.{Inv, MarketOk, Quiet, RoundOk, in-supply, running-is}
-use Rattle.model.proofs.KeepsClaim.{moved-le, offer-le, part-is, rOk, s-le}
+use Rattle.model.proofs.KeepsClaim.{moved-le, s-le, waiting-is}
 use Rattle.model.proofs.Reach.{reachable-inv}
 use Rattle.model.proofs.ReachClock.{reachable-clock}
-use Rattle.model.proofs.Rounds.{went-zero}
+use Rattle.model.proofs.Rounds.{offer-within, went-zero}
 use Rattle.model.proofs.TicketOf.{entered-of}
 use Rattle.ticket_set.proofs.Laws.{bit-of-empty}
 use Rattle.units.proofs.Sums.{only-zero, term-le}
@@ -118,6 +120,15 @@ marks-in (Auction r) (running b) m k l = m .marks k l
 marks-in (Paying r) idle m k l = absurd m
 marks-in (Paying r) (running b) m k l = m .marks k l
 
+-- and what a part of it put in is within the total of its side
+total-in : (p : Phase) (c : Current) → MarketOk p c → (k : ℕ) → k < 64 → (terms : OrderTerms) (o : ℕ) → partIn c k ≡ waiting terms o
+    → o ≤ totalsOf (roundIn p) (terms .side) .total .0
+total-in p idle m k l terms o e = absurd (let z : _≡_ {A = ℕ} 0 1 = cc in omega arith)
+total-in Closed (running b) m k l terms o e = absurd m
+total-in (Collect r) (running b) m k l terms o e = omega (arith, m .0 .total (terms .side), offer-within b k l terms o e)
+total-in (Auction r) (running b) m k l terms o e = omega (arith, m .total (terms .side), offer-within b k l terms o e)
+total-in (Paying r) (running b) m k l terms o e = omega (arith, m .total (terms .side), offer-within b k l terms o e)
+
 not-waiting : (q : Part) → unclaimed q ≡ absent → isWaiting q ≡ 0
 not-waiting absent e = refl
 not-waiting (waiting terms n) e = absurd (let z : _≡_ {A = ℕ} 0 1 = cc in omega arith)
@@ -149,17 +160,30 @@ module _ (x : Exchange) (y : History) (i : Inv x y) where
       marks-in (phase x (o .market)) (y .rounds (o .market)) (i .markets (o .market) (ok .market-low) (ok .market-high)) k l
       ∙ not-waiting (partIn (y .rounds (o .market)) k) (sym (i .tickets .places-are k l (o .market) (ok .market-low) (ok .market-high)) ∙ ap (λ t. enteredIn t (o .market)) e)
 
-  claims1 : (k : ℕ) → k < 64 → (o : Order) (r : Round) → ticket x k ≡ Entered o → phase x (o .market) ≡ Paying r → ClaimBounds r k o (shareIn r o) (gotIn r o)
+  -- a ticket that entered waits in its market's round, whatever its phase
+  entered1 : (k : ℕ) → k < 64 → (o : Order) → ticket x k ≡ Entered o → EnteredBounds (roundIn (phase x (o .market))) k o
+  entered1 k l o e =
+      let ok : OrderBounds o = subst TicketBounds e (i .ticket-bounds k l) in
+      let c : Current = y .rounds (o .market) in
+      let mk = i .markets (o .market) (ok .market-low) (ok .market-high) in
+      let q : partIn c k ≡ waiting (termsOf o) (o .offer .0) =
+      waiting-is (partIn c k) (termsOf o) (o .offer .0)
+      (sym (i .tickets .places-are k l (o .market) (ok .market-low) (ok .market-high))
+      ∙ ap (λ t. enteredIn t (o .market)) e
+      ∙ ap (λ (v : Bool). cond v (waiting (termsOf o) (o .offer .0)) absent) (eq-eqb (o .market) (o .market) refl)) in
+      record {
+        member = marks-in (phase x (o .market)) c mk k l ∙ ap isWaiting q;
+        offer = total-in (phase x (o .market)) c mk k l (termsOf o) (o .offer .0) q;
+      }
+
+  claims1 : (k : ℕ) → k < 64 → (o : Order) (r : Round) → ticket x k ≡ Entered o → phase x (o .market) ≡ Paying r → ClaimBounds r o (shareIn r o) (gotIn r o)
   claims1 k l o r et ep =
       let ok : OrderBounds o = subst TicketBounds et (i .ticket-bounds k l) in
       let b : RoundLog = logOf (y .rounds (o .market)) in
       let er : y .rounds (o .market) ≡ running b =
       running-is (phase x (o .market)) (y .rounds (o .market)) (ap isClosed ep) (i .markets (o .market) (ok .market-low) (ok .market-high)) in
-      let rk = rOk x y i k l o r b et ep er in
       let mv = moved-le x y i k l o r b et ep er in
       record {
-        member = rk .marks k l ∙ ap isWaiting (part-is x y i k l o r b et ep er);
-        offer = omega (arith, rk .total (o .side), offer-le x y i k l o r b et ep er);
         paid = s-le x y i k l o r b et ep er;
         refund = omega (arith, mv (o .side), refund-of (o .side) (o .offer .0 - shareIn r o) (gotIn r o));
         payment = omega (arith, mv (other (o .side)), payment-of (o .side) (o .offer .0 - shareIn r o) (gotIn r o));
@@ -194,6 +218,7 @@ reachable-bounded x l =
       phase-bounds = λ n p q. phase-ok (phase x n) (y .rounds n) (i .markets n p q);
       rests = rests1 x y i;
       marked = marked-order x y i;
+      entered = entered1 x y i;
       claims = claims1 x y i;
       opened = λ n p q. c .past n p q .opened;
       started = λ n p q. c .past n p q .start;

@@ -122,6 +122,12 @@ module _ (h : Exchange) (y : History) (i : Inv h y) (k : Clock h) where
       claim-clock h (credit (withTicket h a (restingOr o (o .offer .0 - s))) (o .member) (wanted (o .side) (o .market)) got) (o .market)
       (claimedRound r a (o .side) (o .offer .0 - s) got) k (λ n. refl) refl (ok .market-low) (size (o .market) (ok .market-high))
       (record { opened = q .opened; start = q .start })
+  done-clock (Call.Leave a m) p =
+      let ha : a < 64 = omega (arith, ltb-false 63 a (p .1 .0)) in
+      let o : Order = orderIn (ticket h a) in
+      let ok : OrderBounds o = subst TicketBounds (entered-is (ticket h a) (not-false (isEntered (ticket h a)) (p .1 .1 .1 .0))) (i .ticket-bounds a ha) in
+      let q = k .past (o .market) (ok .market-low) (ok .market-high) in
+      record { past = clock-set h h (o .market) (lastBlock h) _ k (λ n. refl) (ok .market-low) (size (o .market) (ok .market-high)) (le-refl (lastBlock h)) (record { opened = q .opened; start = q .start }) }
 
   step-clock : (c : Call) → Clock (stepOf h c .exchange)
   step-clock c = step-apart h c (λ (out : Outcome). Clock (out .exchange)) (λ r. k) (done-clock c)

@@ -4,7 +4,7 @@ use mathlib.Core.Logic.{_⊎_, inl, inr}
 use mathlib.Core.Path.{_∙_, _≡_, ap, refl, sym}
 use native.Mathlib.Nat.{eq-zero-or-pos}
 use native.Mathlib.Omega.{arith}
-use Rattle.model.specs.History.{Current, G, P, Part, RoundLog, Stage, T, absent, cameIn, claimed, holds, isWaiting, movedOut, offerOn, put, running, settled, taken, ticketCount, waiting, waitingCount, wentOut, whenSame, withPart}
+use Rattle.model.specs.History.{Current, G, OrderTerms, P, Part, RoundLog, Stage, T, absent, cameIn, claimed, holds, isWaiting, movedOut, offerOn, put, running, settled, taken, ticketCount, waiting, waitingCount, wentOut, whenSame, withPart}
 use Rattle.model.specs.Sides.{offered, other}
 use Rattle.model.specs.WholeRun.{RoundPays, unclaimed, currentHolds, holdsOf, roundsTotal}
 use Rattle.model.specs.declared.state.Round.{Round}
@@ -151,6 +151,16 @@ not-unclaimed absent e = refl
 not-unclaimed (waiting terms o) e = absurd (omega arith)
 not-unclaimed (claimed terms o s got) e = refl
 
+-- what a part that waits put in is within its side's total
+pub offer-within : (b : RoundLog) (k : ℕ) → k < 64 → (terms : OrderTerms) (o : ℕ) → b .part k ≡ waiting terms o → o ≤ T b (terms .side)
+offer-within b k hk terms o e =
+    let own : offerOn (terms .side) (b .part k) ≡ o = ap (offerOn (terms .side)) e ∙ self (terms .side) o in
+    omega (arith, term-le 64 k (λ j. offerOn (terms .side) (b .part j)) hk)
+  where
+    self : (x : Side) (n : ℕ) → whenSame x x n ≡ n
+    self Buy n = refl
+    self Sell n = refl
+
 -- ---- before claims, nothing has moved out by claims
 
 module _ (g : Stage) (early : ClaimsAt g → ⊥) (hi lo : ℕ) (b : RoundLog) where
@@ -169,11 +179,11 @@ module _ (g : Stage) (early : ClaimsAt g → ⊥) (hi lo : ℕ) (b : RoundLog) w
   part-early g′ b′ (waiting terms o) k = k
   part-early g′ b′ (claimed terms o s got) k = absurd (early (k .0))
 
-  -- and where none is unclaimed, there is none
-  pub absent-is : (q : Part) → PartOk g hi lo b q → unclaimed q ≡ absent → q ≡ absent
-  absent-is absent k e = refl
-  absent-is (waiting terms o) k e = e
-  absent-is (claimed terms o s got) k e = absurd (early (k .0))
+  -- and is still unclaimed
+  pub early-part : (q : Part) → PartOk g hi lo b q → q ≡ unclaimed q
+  early-part absent k = refl
+  early-part (waiting terms o) k = refl
+  early-part (claimed terms o s got) k = absurd (early (k .0))
 
 -- what a round holds of a token is within what all rounds hold of it
 pub held-within : (mk : ℕ) (f : ℕ → Current) (b : RoundLog) (x : Side) → 0 < mk → mk < 4 → f mk ≡ running b → holds b x ≤ roundsTotal f (offered x mk)

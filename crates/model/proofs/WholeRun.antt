@@ -35,7 +35,7 @@ use Rattle.model.proofs.Codes.{codes-rising, refusal-code}
 use Rattle.model.proofs.Inv.{Inv, MarketOk}
 use Rattle.model.proofs.KeepsBid.{bid-keeps}
 use Rattle.model.proofs.KeepsClaim.{claim-keeps, pays, shares-are}
-use Rattle.model.proofs.KeepsEnter.{enter-keeps}
+use Rattle.model.proofs.KeepsEntries.{enter-keeps, leave-keeps}
 use Rattle.model.proofs.KeepsFunding.{deposit-keeps, withdraw-keeps}
 use Rattle.model.proofs.KeepsMatch.{match-keeps}
 use Rattle.model.proofs.KeepsOpen.{open-keeps}
@@ -63,6 +63,7 @@ done-keeps h y i (Call.Match mk at) p = match-keeps h y mk at i p
 done-keeps h y i (Call.Bid mk m at sd n bound) p = bid-keeps h y mk m at sd n bound i p
 done-keeps h y i (Call.Settle mk at) p = settle-keeps h y mk at i p
 done-keeps h y i (Call.Claim k) p = claim-keeps h y k i p
+done-keeps h y i (Call.Leave k m) p = leave-keeps h y k m i p
 
 pub step-keeps : (h : Exchange) (y : History) → Inv h y → (c : Call) → Inv (stepOf h c .exchange) (withEvent y c (stepOf h c .answer))
 unfolding withEvent

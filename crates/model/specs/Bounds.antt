@@ -1,4 +1,4 @@
--- What every state that calls can leave keeps of its numbers: all that the ten calls need so that no sum passes its width, no difference
+-- What every state that calls can leave keeps of its numbers: all that the calls need so that no sum passes its width, no difference
 -- falls below 0 and no divisor is 0. A function on parts of the state may ask these of its parts.
 use Prim.Native.Nat.{ℕ, _+_, _-_, _^_, _≤_, _<_}
 use mathlib.Core.Path.{_≡_}
@@ -60,7 +60,7 @@ pub record RoundBounds (r : Round) : Type 0 where
   pub got : (side : Side) → totalsOf r side .got .0 ≤ largest
   pub tickets : r .tickets < 2 ^ 64
 
--- while collecting, all that entered is held
+-- while collecting, just the sides' totals are held
 pub record CollectBounds (r : Round) : Type 0 where
   pub held : (side : Side) → heldIn r side ≡ totalsOf r side .total .0
   pub paid : (side : Side) → totalsOf r side .paid .0 ≡ 0
@@ -77,10 +77,13 @@ PhaseBounds (Collect r) = RoundBounds r × CollectBounds r
 PhaseBounds (Auction r) = RoundBounds r × AuctionBounds r
 PhaseBounds (Paying r) = RoundBounds r
 
--- a round covers the claim of ticket k with order o
-pub record ClaimBounds (r : Round) (k : ℕ) (o : Order) (s got : ℕ) : Type 0 where
+-- a round has ticket k with order o: its bit, and its offer in its side's total
+pub record EnteredBounds (r : Round) (k : ℕ) (o : Order) : Type 0 where
   pub member : bit (r .tickets) k ≡ 1
   pub offer : o .offer .0 ≤ totalsOf r (o .side) .total .0
+
+-- a round covers the claim of a ticket with order o
+pub record ClaimBounds (r : Round) (o : Order) (s got : ℕ) : Type 0 where
   pub paid : s ≤ o .offer .0
   pub refund : o .offer .0 - s ≤ heldIn r (o .side)
   pub payment : got ≤ heldIn r (other (o .side))
@@ -106,14 +109,15 @@ pub record Bounded (x : Exchange) : Type 0 where
   -- tickets and rounds
   pub ticket-bounds : (k : ℕ) → k < 64 → TicketBounds (ticket x k)
   pub phase-bounds : (n : ℕ) → 0 < n → n < 4 → PhaseBounds (phase x n)
-  -- a ticket that rests is in no round, one in a round's set entered there, and one that entered is covered by its round once that pays
+  -- a ticket that rests is in no round, one in a round's set entered there, and one that entered is in its round and is covered by it once that pays
   pub rests : (k : ℕ) → k < 64 → (o : Order) → ticket x k ≡ Resting o → bit (roundIn (phase x (o .market)) .tickets) k ≡ 0
   pub marked :
       (n : ℕ) → 0 < n → n < 4 → (k : ℕ) → k < 64 → bit (roundIn (phase x n) .tickets) k ≡ 1
       → (o : Order) × (o .market ≡ n) × (ticket x k ≡ Entered o)
+  pub entered : (k : ℕ) → k < 64 → (o : Order) → ticket x k ≡ Entered o → EnteredBounds (roundIn (phase x (o .market))) k o
   pub claims :
       (k : ℕ) → k < 64 → (o : Order) (r : Round) → ticket x k ≡ Entered o → phase x (o .market) ≡ Paying r
-      → ClaimBounds r k o (shareIn r o) (gotIn r o)
+      → ClaimBounds r o (shareIn r o) (gotIn r o)
   -- no round's open or match is after the last block
   pub opened : (n : ℕ) → 0 < n → n < 4 → roundIn (phase x n) .opened .0 ≤ lastBlock x
   pub started : (n : ℕ) → 0 < n → n < 4 → roundIn (phase x n) .start .0 ≤ lastBlock x

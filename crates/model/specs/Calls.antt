@@ -1,4 +1,4 @@
--- The ten calls. Each has its tests, "in rising number the conditions that name it, and those of 1 to 5 whose field it has", in two parts: its form,
+-- The calls. Each has its tests, "in rising number the conditions that name it, and those of 1 to 5 whose field it has", in two parts: its form,
 -- which its numbers alone decide, and the rest, over the parts of the state that it looks at; and then what an accepted call answers and leaves. A
 -- test compares sums, so that it means what it says for every number; only k and the price under bid's 17 to 19 are differences, exact since 12 and
 -- 16 go before them. The differences that an accepted call works out are exact in every state that calls can leave (specs/Bounds.antt).
@@ -134,6 +134,7 @@ orderOf x k member market side limit n =
 
 -- ---- 4 Cancel: ticket, member
 
+-- cancel and leave
 abbrev pub cancelForm : ℕ → ℕ → List (Test Refusal)
 cancelForm k member =
     when (above member lastMember) NoSuchMember
@@ -446,6 +447,45 @@ claimDone x k = claimWith x k (orderIn (ticket x k)) (roundIn (phase x (orderIn 
 unfoldable pub claimOf : Exchange → ℕ → Outcome
 claimOf x k = decide (claimTests x k) (refuse x) (claimDone x k)
 
+-- ---- 11 Leave: ticket, member; its form is cancel's
+
+-- "1, 4, 8 as for cancel, then 9 when the ticket is in no round, then 11 when the phase isn't collect"
+abbrev pub leaveRest : TicketState → Phase → (member : ℕ) → List (Test Refusal)
+leaveRest t p member =
+    when (isFree t || not (eqb (orderIn t .member) member)) NoSuchOrder
+    ∷ when (not (isEntered t)) WrongTicketState
+    ∷ when (not (isCollect p)) WrongPhase
+    ∷ []
+
+abbrev pub leaveTests : Exchange → ℕ → ℕ → List (Test Refusal)
+leaveTests x k member = cancelForm k member ++ leaveRest (ticket x k) (phase x (orderIn (ticket x k) .market)) member
+
+-- a side with n fewer offered
+abbrev pub minusTotal : Totals → ℕ → Totals
+minusTotal t n = record { total = amount (t .total .0 - n); paid = t .paid; got = t .got }
+
+-- "takes the ticket out of a round that is still collecting": its offer out of its side's total and of what the round holds, and its bit out of the set
+abbrev pub leftRound : Round → ℕ → Side → ℕ → Round
+leftRound r k side n =
+    withTickets
+    (withHeld
+    (withSides r (bySide side (minusTotal (r .buys) n) (r .buys)) (bySide side (r .sells) (minusTotal (r .sells) n)))
+    (r .quote .0 - bySide side n 0)
+    (r .base .0 - bySide side 0 n))
+    (removed (r .tickets) k)
+
+-- ticket k with order o leaves round r "and makes it rest again. It answers the amount and 0"
+abbrev pub leaveWith : Exchange → ℕ → Order → Round → Outcome
+leaveWith x k o r =
+    accept (o .offer .0) 0
+    (withTicket (withPhase x (o .market) (Collect (leftRound r k (o .side) (o .offer .0)))) k (Resting o))
+
+abbrev pub leaveDone : Exchange → ℕ → Outcome
+leaveDone x k = leaveWith x k (orderIn (ticket x k)) (roundIn (phase x (orderIn (ticket x k) .market)))
+
+unfoldable pub leaveOf : Exchange → ℕ → ℕ → Outcome
+leaveOf x k member = decide (leaveTests x k member) (refuse x) (leaveDone x k)
+
 -- ---- any call
 
 -- the tests of any call, and what it does where none applies
@@ -460,6 +500,7 @@ testsOf x (Call.Match market at) = matchTests x market at
 testsOf x (Call.Bid market member at side n bound) = bidTests x market member at side n bound
 testsOf x (Call.Settle market at) = settleTests x market at
 testsOf x (Call.Claim k) = claimTests x k
+testsOf x (Call.Leave k member) = leaveTests x k member
 
 abbrev pub doneOf : Exchange → Call → Outcome
 doneOf x (Call.Deposit member token n) = depositDone x member token n
@@ -472,3 +513,4 @@ doneOf x (Call.Match market at) = matchDone x market at
 doneOf x (Call.Bid market member at side n bound) = bidDone x market member at side n
 doneOf x (Call.Settle market at) = settleDone x market at
 doneOf x (Call.Claim k) = claimDone x k
+doneOf x (Call.Leave k member) = leaveDone x k

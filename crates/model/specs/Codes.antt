@@ -30,7 +30,7 @@ pub record TestsRising (x : Exchange) (c : Call) : Type 0 where
   pub codes-are : map (λ (t : Test Refusal). refusalCode (t .reason)) (testsOf x c) ≡ codesOf c
   pub rising : Rising (codesOf c)
 
--- the statement, of all ten calls
+-- the statement, of all calls
 abbrev pub CodesRising : Type 0
 CodesRising = (x : Exchange) (c : Call) → TestsRising x c
 

@@ -57,7 +57,8 @@ lessPaid (placed terms market left) s = placedOr terms market (left - s)
 
 -- ---- rounds
 
--- a ticket's part in a round: it waits with its order's terms and the offer o that its enter put in, and is then claimed, paying s and getting got
+-- a ticket's part in a round: it waits with its order's terms and the offer o that its enter put in, and is then absent again where it leaves, or
+-- claimed, paying s and getting got
 pub data Part : Type 0 where
   absent : Part
   waiting : (terms : OrderTerms) (o : ℕ) → Part
@@ -342,6 +343,10 @@ endedAt g f y n (running b) = cond (sameStage g (b .stage)) (endOrRound y n (f b
 abbrev pub withEnter : History → ℕ → PlacedOrder → History
 withEnter y k o = withRound y (marketIn o) (changedAt collecting (λ b. withPart b k (partOf o)) (y .rounds (marketIn o)))
 
+-- a leave of ticket k with the order o, while its round collects: "the enter it undoes no longer counts there"
+abbrev pub withLeave : History → ℕ → PlacedOrder → History
+withLeave y k o = withRound y (marketIn o) (changedAt collecting (λ b. withPart b k absent) (y .rounds (marketIn o)))
+
 -- a claim of ticket k with the order o: "paying it out leaves o - s with the ticket and adds got to its member's balance"; its part is claimed
 abbrev pub withClaim : History → ℕ → PlacedOrder → ℕ → ℕ → History
 withClaim y k o s got =
@@ -368,6 +373,7 @@ withAccepted y (Call.Bid market member at side n bound) n′ q =
     member (offered (sideOf side) market) (takes (sideOf side) n q)
 withAccepted y (Call.Settle market at) quote base = endedAt auctioning withSettle y market (y .rounds market)
 withAccepted y (Call.Claim k) s got = withClaim y k (y .orders k) s got
+withAccepted y (Call.Leave k member) a b = withLeave y k (y .orders k)
 
 -- a refused call says nothing
 unfoldable pub withEvent : History → Call → Answer → History

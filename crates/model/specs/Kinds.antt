@@ -1,4 +1,4 @@
--- "The ten calls, by kind number and fields": one row a kind, and the numbers of a call.
+-- "The ten calls, by kind number and fields", and kind 11 of document 02: one row a kind, and the numbers of a call.
 use Prim.Native.Nat.{ℕ, zero, suc}
 use mathlib.Core.Bool.{cond}
 use mathlib.Core.List.{List, [], _∷_}
@@ -6,7 +6,7 @@ use mathlib.Core.Option.{Option, some, none}
 use lib.Dec.{eqb}
 use lib.ListN.{getD}
 use Rattle.model.specs.declared.call.Call.{Call}
-use Rattle.model.specs.declared.call.Call.the-variants.{Deposit, Withdraw, Order, Cancel, Open, Enter, Match, Bid, Settle, Claim}
+use Rattle.model.specs.declared.call.Call.the-variants.{Deposit, Withdraw, Order, Cancel, Open, Enter, Match, Bid, Settle, Claim, Leave}
 
 -- a call that takes so many fields
 abbrev pub Taking : ℕ → Type 0
@@ -30,7 +30,7 @@ pub record Kind : Type 0 where
 abbrev pub kind : (number fields : ℕ) → Taking fields → List ℕ → Kind
 kind number fields call codes = record { number = number; fields = fields; call = call; codes = codes }
 
--- the codes are from "Why a call is turned down": 1 to 5 where the call has the field, and those that name its kind
+-- the codes are from "Why a call is turned down": 1 to 5 where the call has the field, and those that name its kind; leave's are from document 02
 abbrev pub kinds : List Kind
 kinds =
     kind 1 3 Deposit (1 ∷ 2 ∷ 6 ∷ 14 ∷ [])
@@ -43,6 +43,7 @@ kinds =
     ∷ kind 8 6 Bid (1 ∷ 3 ∷ 5 ∷ 6 ∷ 11 ∷ 12 ∷ 16 ∷ 17 ∷ 18 ∷ 19 ∷ [])
     ∷ kind 9 2 Settle (3 ∷ 11 ∷ 12 ∷ 13 ∷ [])
     ∷ kind 10 1 Claim (4 ∷ 8 ∷ 9 ∷ 11 ∷ [])
+    ∷ kind 11 2 Leave (1 ∷ 4 ∷ 8 ∷ 9 ∷ 11 ∷ [])
     ∷ []
 
 -- a call's kind number, and then its fields
@@ -57,6 +58,7 @@ numbersOfCall (Match market block) = 7 ∷ (market ∷ (block ∷ []))
 numbersOfCall (Bid market member block side base bound) = 8 ∷ (market ∷ (member ∷ (block ∷ (side ∷ (base ∷ (bound ∷ []))))))
 numbersOfCall (Settle market block) = 9 ∷ (market ∷ (block ∷ []))
 numbersOfCall (Claim ticket) = 10 ∷ (ticket ∷ [])
+numbersOfCall (Leave ticket member) = 11 ∷ (ticket ∷ (member ∷ []))
 
 abbrev pub kindOf : Call → ℕ
 kindOf c = getD (numbersOfCall c) 0 0

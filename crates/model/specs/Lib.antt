@@ -8,8 +8,8 @@ pub mod Codes
 pub mod History
 pub mod WholeRun
 pub mod Closing
+pub mod EnterLeave
 pub mod Bounds
 pub mod Scripts
 pub mod Day
 pub mod Edges
-pub mod Examples

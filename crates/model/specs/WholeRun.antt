@@ -2,8 +2,8 @@
 -- and what is read off the state: balances, tickets and the residue, as document 01 has it, the supply that refusal 14 looks at, and that a
 -- refusal leaves the whole state.
 -- It does not look at blocks, phases, which code refuses, the prices of matches and bids within the tickets' limits, a maker's bound, the numbers
--- that kinds 1, 2, 3, 5, 6 and 9 answer, cancel's second and a bid's first: the calls' own definitions fix those. So an engine that refuses
--- every call meets it.
+-- that kinds 1, 2, 3, 5, 6, 9 and 11 answer, cancel's second and a bid's first, and who cancels or leaves: the calls' own definitions fix
+-- those. So an engine that refuses every call meets it.
 use Prim.Native.Nat.{ℕ, suc, _+_, _-_, _≤_, _<_}
 use mathlib.Core.Path.{_≡_}
 use mathlib.Core.Bool.{cond}

@@ -1,4 +1,4 @@
-// The ten calls, in the order of their kind numbers, each with its fields in the paper's order.
+// The calls, in the order of their kind numbers, each with its fields in the paper's order.
 pub enum Call {
     Deposit {
         member: u32,
@@ -50,5 +50,9 @@ pub enum Call {
     },
     Claim {
         ticket: u32,
+    },
+    Leave {
+        ticket: u32,
+        member: u32,
     },
 }

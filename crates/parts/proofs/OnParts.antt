@@ -36,9 +36,9 @@ use Rattle.parts.specs.declared.Form.{Form}
 use Rattle.parts.specs.declared.Form.the-variants.{Good, Bad}
 use Rattle.model.specs.Sides.{sideOf, offered, wanted, gives, takes}
 use Rattle.model.specs.State.{supply, lastBlock, ticket, freeTicket, orderIn, isFree, restingOr, phase, closedMarket, roundIn, marketAt, setMarket, setLedger, setSupply, setResidue, setTickets, setMarkets, setLast, withTicket, withPhase, credit, toResidue}
-use Rattle.model.specs.Calls.{bankForm, orderForm, cancelForm, openForm, ticketForm, marketForm, bidForm, depositRest, withdrawRest, orderRest, cancelRest, openRest, enterRest, matchRest, bidRest, settleRest, claimRest, accept, refuse, above, outside, bidQuote, bidRound, depositOf, depositDone, withdrawOf, orderOf, orderDone, cancelOf, cancelDone, openOf, openDone, enterOf, enterWith, enterDone, matchOf, matchDone, bidOf, bidDone, settleOf, settleDone, claimedRound, payingOrClosed, claimOf, claimWith, claimDone, shareIn, gotIn, orderFrom}
+use Rattle.model.specs.Calls.{bankForm, orderForm, cancelForm, openForm, ticketForm, marketForm, bidForm, depositRest, withdrawRest, orderRest, cancelRest, openRest, enterRest, matchRest, bidRest, settleRest, claimRest, leaveRest, accept, refuse, above, outside, bidQuote, bidRound, depositOf, depositDone, withdrawOf, orderOf, orderDone, cancelOf, cancelDone, openOf, openDone, enterOf, enterWith, enterDone, matchOf, matchDone, bidOf, bidDone, settleOf, settleDone, claimedRound, payingOrClosed, claimOf, claimWith, claimDone, leaveOf, leaveWith, leaveDone, shareIn, gotIn, orderFrom}
 use Rattle.model.specs.Bounds.{Bounded, OrderBounds, TicketBounds}
-use Rattle.parts.specs.Parts.{formOf, byForm, ticketMarket, ticketMember, supplyAt, residueAt, ticketAt, refusedBanked, depositedOn, depositOn, withdrawnOn, withdrawOn, putBanked, refusedPlaced, orderedOn, orderOn, cancelledOn, cancelOn, putPlaced, refusedMoved, openedOn, openOn, matchedOn, matchOn, settledOn, settleOn, putMoved, refusedJoined, enteredOn, enterOn, putJoined, refusedTraded, tradedOn, bidOn, putTraded, refusedClaimed, paidOn, claimOn, putClaimed}
+use Rattle.parts.specs.Parts.{formOf, byForm, ticketMarket, ticketMember, supplyAt, residueAt, ticketAt, refusedBanked, depositedOn, depositOn, withdrawnOn, withdrawOn, putBanked, refusedPlaced, orderedOn, orderOn, cancelledOn, cancelOn, putPlaced, refusedMoved, openedOn, openOn, matchedOn, matchOn, settledOn, settleOn, putMoved, refusedJoined, enteredOn, enterOn, leftOn, leaveOn, putJoined, refusedTraded, tradedOn, bidOn, putTraded, refusedClaimed, paidOn, claimOn, putClaimed}
 use Rattle.model.proofs.Frames.{inside, offered-lt, wanted-lt}
 use Rattle.parts.proofs.OneRow.{credited-by-row, debited-by-row, traded-by-row}
 
@@ -225,7 +225,7 @@ module _ (x : Exchange) (n at : ℕ) where
       on-form x (marketForm n) us (settleDone x n at) _ (λ f.
       sym (decide-carried (putMoved x n) (refusedMoved (marketAt (x .markets) n) (x .last)) (settledOn r at) (refuse x) (settleDone x n at) us move-back (λ p. refl)))
 
--- ---- 6
+-- ---- 6, 11
 
 module _ (x : Exchange) (k : ℕ) (s : TicketState) (e : ticketAt x k ≡ record { state = s }) where
   join-back : (n : ℕ) (w : Refusal) → putJoined x k n (refusedJoined (record { state = s }) (marketAt (x .markets) n) w) ≡ refuse x w
@@ -249,6 +249,30 @@ pub enter-on : (x : Exchange) (k : ℕ)
     → enterOf x k ≡ byForm (formOf (ticketForm k)) (refuse x) (putJoined x k (ticketMarket (ticket x k)) (enterOn (ticketAt x k) (marketAt (x .markets) (ticketMarket (ticket x k))) k))
 unfolding enterOf
 enter-on x k = on-form x (ticketForm k) (enterRest (ticket x k) (phase x (orderIn (ticket x k) .market))) (enterDone x k) _ (λ f. enter-ticket x k (ticket x k) refl)
+
+-- in the market of the ticket's order
+leave-there : (x : Exchange) (k m : ℕ) (s : TicketState) → ticketAt x k ≡ record { state = s }
+    → decide (leaveRest s (phase x (orderIn s .market)) m) (refuse x) (leaveWith x k (orderIn s) (roundIn (phase x (orderIn s .market))))
+    ≡ putJoined x k (orderIn s .market) (leaveOn (record { state = s }) (marketAt (x .markets) (orderIn s .market)) k m)
+unfolding leaveOn
+leave-there x k m s e =
+    let o : Order = orderIn s in
+    let q : Market = marketAt (x .markets) (o .market) in
+    sym (decide-carried (putJoined x k (o .market)) (refusedJoined (record { state = s }) q) (leftOn o (roundIn (q .phase)) k) (refuse x) (leaveWith x k o (roundIn (q .phase)))
+    (leaveRest s (q .phase) m) (join-back x k s e (o .market)) (λ p. refl))
+
+leave-ticket : (x : Exchange) (k m : ℕ) (s : TicketState) → ticketAt x k ≡ record { state = s }
+    → decide (leaveRest s (phase x (orderIn s .market)) m) (refuse x) (leaveWith x k (orderIn s) (roundIn (phase x (orderIn s .market))))
+    ≡ putJoined x k (ticketMarket s) (leaveOn (record { state = s }) (marketAt (x .markets) (ticketMarket s)) k m)
+unfolding leaveOn
+leave-ticket x k m Free e = sym (join-back x k Free e 1 NoSuchOrder)
+leave-ticket x k m (Resting o) e = leave-there x k m (Resting o) e
+leave-ticket x k m (Entered o) e = leave-there x k m (Entered o) e
+
+pub leave-on : (x : Exchange) (k m : ℕ)
+    → leaveOf x k m ≡ byForm (formOf (cancelForm k m)) (refuse x) (putJoined x k (ticketMarket (ticket x k)) (leaveOn (ticketAt x k) (marketAt (x .markets) (ticketMarket (ticket x k))) k m))
+unfolding leaveOf
+leave-on x k m = on-form x (cancelForm k m) (leaveRest (ticket x k) (phase x (orderIn (ticket x k) .market)) m) (leaveDone x k) _ (λ f. leave-ticket x k m (ticket x k) refl)
 
 -- ---- 8
 

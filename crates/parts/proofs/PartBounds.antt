@@ -18,8 +18,8 @@ use Rattle.model.specs.declared.state.Exchange.{Exchange}
 use Rattle.model.specs.Sides.{other, offered, wanted}
 use Rattle.model.specs.State.{balance, supply, residue, ticket, phase, roundIn, marketAt}
 use Rattle.model.specs.WholeRun.{restingIn}
-use Rattle.model.specs.Bounds.{Bounded, OrderBounds, TicketBounds, PhaseBounds, heldIn, heldOf}
-use Rattle.parts.specs.Asked.{BankBounds, CancelBounds, EnterBounds, MatchBounds, BidBounds, PayBounds}
+use Rattle.model.specs.Bounds.{Bounded, EnteredBounds, OrderBounds, TicketBounds, PhaseBounds, heldIn, heldOf}
+use Rattle.parts.specs.Asked.{BankBounds, CancelBounds, EnterBounds, LeaveBounds, MatchBounds, BidBounds, PayBounds}
 use Rattle.parts.specs.Parts.{ticketMarket, ticketMember, supplyAt, residueAt, ticketAt}
 use Rattle.model.proofs.Frames.{offered-lt}
 
@@ -85,6 +85,18 @@ module _ (x : Exchange) (b : Bounded x) where
       let h : heldIn (roundIn (phase x (o .market))) (o .side) ≡ heldIn r (o .side) = ap (λ (p : Phase). heldIn (roundIn p) (o .side)) ep1 in
       (omega (arith, w, h, cb .1 .held (o .side)), omega (arith, w, h))
 
+  -- in its market's phase
+  entered-there : (k : ℕ) → k < 64 → (o : Order) (p : Phase) → ticket x k ≡ Entered o → phase x (o .market) ≡ p → EnteredBounds (roundIn p) k o
+  entered-there k hk o p e ep = subst (λ (q : Phase). EnteredBounds (roundIn q) k o) ep (b .entered k hk o e)
+
+  pub leave-bounds : (k : ℕ) → k < 64 → LeaveBounds (ticketAt x k) (marketAt (x .markets) (ticketMarket (ticket x k)))
+  leave-bounds k hk o r e ep =
+      let ok : OrderBounds o = subst TicketBounds e (b .ticket-bounds k hk) in
+      let ep1 : phase x (o .market) ≡ Collect r = sym (ap (λ (s : TicketState). phase x (ticketMarket s)) e) ∙ ep in
+      let cb = subst PhaseBounds ep1 (b .phase-bounds (o .market) (ok .market-low) (ok .market-high)) in
+      let l = entered-there k hk o (Collect r) e ep1 .offer in
+      (l, omega (arith, l, cb .1 .held (o .side)))
+
   pub match-bounds : (n : ℕ) → 0 < n → n < 4 → MatchBounds (marketAt (x .markets) n)
   match-bounds n pos h r e =
       let t = subst PhaseBounds e (b .phase-bounds n pos h) .0 .terms in
@@ -112,6 +124,7 @@ module _ (x : Exchange) (b : Bounded x) where
       record {
         order = ok;
         round = subst PhaseBounds ep (b .phase-bounds (o .market) (ok .market-low) (ok .market-high));
+        entered = entered-there k hk o (Paying r) et ep;
         claim = b .claims k hk o r et ep;
         balance-fits = omega (arith, subst (λ (t : ℕ). cellOf (rowOf (x .ledger) (o .member)) t + heldIn r (other (o .side)) + residue x t ≤ largest) (wants (o .side) (o .market)) (w (other (o .side))));
         quote-fits = omega (arith, w Buy);

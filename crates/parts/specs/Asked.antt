@@ -18,7 +18,7 @@ use Rattle.model.specs.declared.state.Market.{Market}
 use Rattle.model.specs.Sides.{other, offered, wanted}
 use Rattle.model.specs.State.{totalsOf}
 use Rattle.model.specs.Calls.{shareIn, gotIn}
-use Rattle.model.specs.Bounds.{OrderBounds, RoundBounds, AuctionBounds, ClaimBounds, heldIn}
+use Rattle.model.specs.Bounds.{OrderBounds, RoundBounds, AuctionBounds, EnteredBounds, ClaimBounds, heldIn}
 
 -- deposit, withdraw: a balance is within its token's supply
 abbrev pub BankBounds : Row → Amount → ℕ → Type 0
@@ -34,6 +34,12 @@ abbrev pub EnterBounds : Ticket → Market → Type 0
 EnterBounds t market =
     (o : Order) (r : Round) → t .state ≡ Resting o → market .phase ≡ Collect r
     → (totalsOf r (o .side) .total .0 + o .offer .0 ≤ largest) × (heldIn r (o .side) + o .offer .0 ≤ largest)
+
+-- leave: its offer is within its side's total and within what the round holds
+abbrev pub LeaveBounds : Ticket → Market → Type 0
+LeaveBounds t market =
+    (o : Order) (r : Round) → t .state ≡ Entered o → market .phase ≡ Collect r
+    → (o .offer .0 ≤ totalsOf r (o .side) .total .0) × (o .offer .0 ≤ heldIn r (o .side))
 
 -- match: there is a reference price
 abbrev pub MatchBounds : Market → Type 0
@@ -55,7 +61,8 @@ BidFits market row last number = (r : Round) → market .phase ≡ Auction r →
 pub record PayBounds (o : Order) (r : Round) (row : Row) (quote base : Amount) (k : ℕ) : Type 0 where
   pub order : OrderBounds o
   pub round : RoundBounds r
-  pub claim : ClaimBounds r k o (shareIn r o) (gotIn r o)
+  pub entered : EnteredBounds r k o
+  pub claim : ClaimBounds r o (shareIn r o) (gotIn r o)
   pub balance-fits : cellOf row (wanted (o .side) (o .market)) + heldIn r (other (o .side)) ≤ largest
   pub quote-fits : quote .0 + heldIn r Buy ≤ largest
   pub base-fits : base .0 + heldIn r Sell ≤ largest

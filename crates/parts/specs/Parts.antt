@@ -1,4 +1,4 @@
--- The ten calls on the parts of the state that they touch: what a form comes to, a call's work on its parts, and the state with the parts put back.
+-- The calls on the parts of the state that they touch: what a form comes to, a call's work on its parts, and the state with the parts put back.
 -- The laws in proofs/OnParts.antt say that this is the call itself; a reader who believes model/specs/Calls.antt need not believe this page.
 use Prim.Native.Nat.{ℕ, _+_, _-_}
 use mathlib.Core.Bool.{cond}
@@ -35,7 +35,7 @@ use Rattle.parts.specs.declared.Traded.{Traded}
 use Rattle.parts.specs.declared.Claimed.{Claimed}
 use Rattle.model.specs.Sides.{offered, wanted, gives, takes}
 use Rattle.model.specs.State.{orderIn, restingOr, freeTicket, roundIn, totalsOf, setMarket, setLedger, setSupply, setResidue, setTickets, setMarkets, setLast}
-use Rattle.model.specs.Calls.{shareIn, gotIn, depositRest, withdrawRest, orderRest, cancelRest, openRest, enterRest, matchRest, bidRest, settleRest, claimRest, openedRound, enteredRound, tradeOf, matchedRound, bidQuote, bidRound, settledPhase, claimedRound}
+use Rattle.model.specs.Calls.{shareIn, gotIn, depositRest, withdrawRest, orderRest, cancelRest, openRest, enterRest, matchRest, bidRest, settleRest, claimRest, leaveRest, openedRound, enteredRound, leftRound, tradeOf, matchedRound, bidQuote, bidRound, settledPhase, claimedRound}
 
 -- ---- a call's form: what its numbers alone decide
 
@@ -173,7 +173,7 @@ abbrev pub putMoved : Exchange → ℕ → Moved → Outcome
 putMoved x market p =
     record { answer = p .answer; exchange = setLast (setMarkets x (setMarket (x .markets) market (p .market))) (p .last) }
 
--- ---- 6: a ticket and its market
+-- ---- 6, 11: a ticket and its market
 
 abbrev pub refusedJoined : Ticket → Market → Refusal → Joined
 refusedJoined ticket market why = record { answer = Refused why; ticket = ticket; market = market }
@@ -189,6 +189,18 @@ enteredOn o r k =
 unfoldable pub enterOn : Ticket → Market → ℕ → Joined
 enterOn t market k =
     decide (enterRest (t .state) (market .phase)) (refusedJoined t market) (enteredOn (orderIn (t .state)) (roundIn (market .phase)) k)
+
+abbrev pub leftOn : Order → Round → ℕ → Joined
+leftOn o r k =
+    record {
+      answer = Accepted (o .offer .0) 0;
+      ticket = record { state = Resting o };
+      market = record { phase = Collect (leftRound r k (o .side) (o .offer .0)) };
+    }
+
+unfoldable pub leaveOn : Ticket → Market → ℕ → ℕ → Joined
+leaveOn t market k member =
+    decide (leaveRest (t .state) (market .phase) member) (refusedJoined t market) (leftOn (orderIn (t .state)) (roundIn (market .phase)) k)
 
 abbrev pub putJoined : Exchange → ℕ → ℕ → Joined → Outcome
 putJoined x k market p =

@@ -34,7 +34,7 @@ pub struct Moved {
     pub last: Block,
 }
 
-// Enter: a ticket and its market.
+// Enter and leave: a ticket and its market.
 pub struct Joined {
     pub answer: Answer,
     pub ticket: Ticket,

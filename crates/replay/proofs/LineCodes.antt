@@ -1,13 +1,13 @@
 -- The code that a line is read with, and the one that it is answered with.
 use Prim.Native.Nat.{ℕ, _<_}
-use mathlib.Core.Path.{_≡_, refl, sym, ap, _∙_, subst}
+use mathlib.Core.Path.{_≡_, refl, sym, _∙_, subst}
 use mathlib.Core.List.{List, [], _∷_, map}
 use native.Mathlib.Omega.{arith}
 use Rattle.units.specs.Decide.{Test, decide}
 use Rattle.units.proofs.Cases.{by-test}
 use Rattle.model.specs.declared.state.Exchange.{Exchange}
 use Rattle.model.specs.declared.call.Call.{Call}
-use Rattle.model.specs.declared.call.Call.the-variants.{Deposit, Withdraw, Order, Cancel, Open, Enter, Match, Bid, Settle, Claim}
+use Rattle.model.specs.declared.call.Call.the-variants.{Deposit, Withdraw, Order, Cancel, Open, Enter, Match, Bid, Settle, Claim, Leave}
 use Rattle.model.specs.declared.answer.Outcome.{Outcome}
 use Rattle.model.specs.declared.answer.Refusal.{Refusal}
 use Rattle.model.specs.Answers.{refusalCode, codeOf}
@@ -21,7 +21,7 @@ use Rattle.lines.specs.CallLines.{readingOf}
 use Rattle.lines.specs.ReadingCode.{readingCode, lineCode}
 use Rattle.lines.proofs.ReadingCode.{readings-tell}
 use Rattle.replay.specs.Lines.{outcomeOf, lineOutcome}
-use Rattle.replay.specs.LineCodes.{LineCoded, LineCodes}
+use Rattle.replay.specs.LineCodes.{LineCodes}
 
 -- ---- a call's codes are below 20
 
@@ -40,6 +40,7 @@ codes-below (Match a b) = omega arith
 codes-below (Bid a b d e f g) = omega arith
 codes-below (Settle a b) = omega arith
 codes-below (Claim a) = omega arith
+codes-below (Leave a b) = omega arith
 
 decided-below : (x : Exchange) (ts : List (Test Refusal)) (o : Outcome) → Below (map (λ (t : Test Refusal). refusalCode (t .reason)) ts) → codeOf (o .answer) ≡ 0
     → codeOf (decide ts (refuse x) o .answer) < 20

@@ -133,6 +133,16 @@ bit-removed-other m i j n =
     ⊎-elim (λ (e : bit m i ≡ 0). rw (removed-clear m i e)) (λ (e : bit m i ≡ 1).
     rw (removed-is m i e) (sym (bit-inserted-other (m - 2 ^ i) i j n) ∙ ap (λ (x : ℕ). bit x j) (inserted-back m i e))) (bit-cases m i)
 
+-- inserting what is not there and removing it gives the set back, and so do removing what is there and inserting it
+pub removed-inserted : (m i : ℕ) → bit m i ≡ 0 → removed (inserted m i) i ≡ m
+unfolding inserted
+removed-inserted m i clear =
+    let e : inserted m i ≡ m + 2 ^ i = rw clear (omega arith) in
+    removed-is (inserted m i) i (bit-inserted-same m i) ∙ omega (arith, e)
+
+pub inserted-removed : (m i : ℕ) → bit m i ≡ 1 → inserted (removed m i) i ≡ m
+inserted-removed m i set = ap (λ (x : ℕ). inserted x i) (removed-is m i set) ∙ inserted-back m i set
+
 -- both stay sets of 64 tickets
 pub inserted-lt : (m i : ℕ) → m < 2 ^ 64 → i < 64 → inserted m i < 2 ^ 64
 inserted-lt m i h g = rw (← or-bit m i) (or-lt 64 m (2 ^ i) h (pow-lt g))

@@ -31,7 +31,7 @@ use Rattle.model.specs.declared.call.Call.the-variants as Call
 use Rattle.model.specs.declared.answer.Answer.{Answer}
 use Rattle.model.specs.declared.answer.Outcome.{Outcome}
 use Rattle.model.specs.Answers.{firstOf, secondOf}
-use Rattle.model.specs.Bounds.{Bounded, PhaseBounds, RoundBounds}
+use Rattle.model.specs.Bounds.{Bounded, OrderBounds, TicketBounds, PhaseBounds, RoundBounds}
 use Rattle.model.specs.Calls.{bidQuote, doneOf, notAvailable, outside, above, testsOf}
 use Rattle.model.specs.Run.{Reachable, at-first, stepOf}
 use Rattle.model.specs.Sides.{gives, offered, wanted, sideOf}
@@ -41,7 +41,7 @@ use Rattle.model.proofs.Frames.{inside, offered-lt}
 use Rattle.model.proofs.Inv.{resting-is, entered-is, collect-is, auction-is, paying-is}
 use Rattle.model.proofs.Steps.{step-apart}
 use Rattle.model.proofs.ReachBounds.{reachable-bounded}
-use Rattle.parts.proofs.PartBounds.{enter-bounds, cancel-bounds, pay-bounds}
+use Rattle.parts.proofs.PartBounds.{enter-bounds, leave-bounds, cancel-bounds, pay-bounds}
 use Rattle.replay.specs.Lines.{outcomeOf, lineOutcome, lineText}
 use Rattle.replay.specs.Days.{linesOf, answerText, lastLine, dayOf}
 use Rattle.replay.proofs.LineRun.{reachable-line}
@@ -140,9 +140,19 @@ module _ (x : Exchange) (b : Bounded x) where
       let ep : phase x (o .market) ≡ Paying r = paying-is (phase x (o .market)) (not-false (isPaying (phase x (o .market))) (p .1 .1 .1 .0)) in
       let w = pay-bounds x b k hk o r et ep in
       record {
-        first = omega (arith, w .claim .paid, w .claim .offer, w .round .total (o .side));
+        first = omega (arith, w .claim .paid, w .entered .offer, w .round .total (o .side));
         second = omega (arith, w .claim .payment, w .balance-fits);
       }
+  done-small (Call.Leave k m) p =
+      let hk : k < 64 = omega (arith, ltb-false 63 k (p .1 .0)) in
+      let o : Order = orderIn (ticket x k) in
+      let r : Round = roundIn (phase x (o .market)) in
+      let et : ticket x k ≡ Entered o = entered-is (ticket x k) (not-false (isEntered (ticket x k)) (p .1 .1 .1 .0)) in
+      let ep : phase x (o .market) ≡ Collect r = collect-is (phase x (o .market)) (not-false (isCollect (phase x (o .market))) (p .1 .1 .1 .1 .0)) in
+      let here : phase x (ticketMarket (ticket x k)) ≡ Collect r = ap (λ (s : TicketState). phase x (ticketMarket s)) et ∙ ep in
+      let ok : OrderBounds o = subst TicketBounds et (b .ticket-bounds k hk) in
+      let rb : RoundBounds r = subst PhaseBounds ep (b .phase-bounds (o .market) (ok .market-low) (ok .market-high)) .0 in
+      record { first = omega (arith, leave-bounds x b k hk o r et here .0, rb .total (o .side)); second = omega arith }
 
   step-small : (c : Call) → Small (stepOf x c .answer)
   step-small c = step-apart x c (λ (out : Outcome). Small (out .answer)) (λ r. record { first = omega arith; second = omega arith }) (done-small c)

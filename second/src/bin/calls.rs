@@ -10,13 +10,13 @@
 
 use second::chance::Chance;
 use second::engine::MOST;
-use second::lines::FIELDS;
+use second::lines::{FIELDS, KINDS};
 use second::{call_of, write_call_at};
 use std::io::{self, BufWriter, Write};
 use std::process::ExitCode;
 
 /// A call of each kind, with numbers of mixed lengths.
-const EACH_KIND: [(u32, &[u32]); FIELDS.len() - 1] = [
+const EACH_KIND: [(u32, &[u32]); KINDS] = [
     (1, &[9, 10, 0]),
     (2, &[100, 0, 7]),
     (3, &[63, 0, 3, 1, 999, 1_000]),
@@ -27,10 +27,11 @@ const EACH_KIND: [(u32, &[u32]); FIELDS.len() - 1] = [
     (8, &[2, 15, 1_000_000_000, 1, 5, 99_999]),
     (9, &[99, 0]),
     (10, &[63]),
+    (11, &[9, 10]),
 ];
 
 /// Numbers that are no kind.
-const NO_KINDS: [u32; 5] = [0, 11, 12, 13, u32::MAX];
+const NO_KINDS: [u32; 5] = [0, 12, 13, 14, u32::MAX];
 
 /// Small buffers have up to so many bytes, or a few more than the line.
 const SMALL: u64 = 12;
@@ -45,7 +46,7 @@ struct Case {
 
 impl Case {
     fn draw(chance: &mut Chance) -> Case {
-        let like = chance.between(1, FIELDS.len() as u64 - 1) as usize;
+        let like = chance.between(1, KINDS as u64) as usize;
         let kind = draw_kind(chance, like as u32);
         let fields = draw_fields(chance, FIELDS[like]);
         let (size, place) = draw_room(chance, line_length(kind, &fields));
@@ -195,7 +196,7 @@ mod tests {
         assert_eq!(printed(6, &[0], 6, 3), "6 1 0 6 3 0 232a31383f46\n");
         assert_eq!(printed(6, &[], 6, 2), "6 0 6 2 0 232a31383f46\n");
         assert_eq!(printed(10, &[63], 0, u64::MAX), "10 1 63 0 18446744073709551615 0 -\n");
-        assert!(printed(11, &[0], 33, 0).ends_with(
+        assert!(printed(12, &[0], 33, 0).ends_with(
             " 33 0 0 232a31383f464d545b6269\
             70777e858c939aa1a8afb6bdc4cbd2d9e0e7eef5fc03\n"
         ));

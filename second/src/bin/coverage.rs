@@ -1,19 +1,19 @@
 //! Reads call lines from standard input, works them and prints how often
 //! each kind of call met each code (kind 0 for lines that are no call), the
 //! pairs that can occur but didn't, and how often certain borders were met.
-//! After each call it checks that no amount came up or went missing. Where
-//! that fails, or a kind met a code that it cannot meet, it ends with status 1
-//! after the counts and says why on standard error.
+//! After each call it checks the books. Where they are wrong, or a kind met a
+//! code that it cannot meet, it ends with status 1 after the counts and says
+//! why on standard error.
 
-use second::engine::{bid_quote, MILLION, MOST};
-use second::lines::{FIELDS, LINE_MOST};
-use second::{read_call, Answer, Call, Exchange, Market, Phase, Place};
+use second::engine::{bid_quote, MILLION, MOST, TICKETS};
+use second::lines::{FIELDS, KINDS, LINE_MOST};
+use second::{books, read_call, Answer, Call, Exchange, Phase, Place};
 use std::collections::BTreeMap;
 use std::io::{self, BufRead, BufReader, Write};
 use std::process::ExitCode;
 
 /// The codes that a kind can meet; kind 0 is a line that is no call.
-const CODES: [&[usize]; 11] = [
+const CODES: [&[usize]; KINDS + 1] = [
     &[20],
     &[0, 1, 2, 6, 14],
     &[0, 1, 2, 6, 19],
@@ -25,6 +25,7 @@ const CODES: [&[usize]; 11] = [
     &[0, 1, 3, 5, 6, 11, 12, 16, 17, 18, 19],
     &[0, 3, 11, 12, 13],
     &[0, 4, 8, 9, 11],
+    &[0, 1, 4, 8, 9, 11],
 ];
 
 /// Every border that is counted, so that those not met show as 0.
@@ -53,7 +54,7 @@ const BORDERS: &[&str] = &[
     "line: too few fields",
     "line: too many fields",
     "line: kind 0",
-    "line: kind 11",
+    "line: kind 12",
     "line: kind 4294967295",
     "line: last without byte 10",
     "line: call followed by a bad byte",
@@ -82,6 +83,7 @@ const BORDERS: &[&str] = &[
     "order: all 64 tickets in use after",
     "cancel: of a rest",
     "cancel: another's ticket in a round",
+    "cancel: after a leave",
     "open: r 1",
     "open: r 1000000000",
     "open: r 1000000001 refused",
@@ -100,11 +102,15 @@ const BORDERS: &[&str] = &[
     "enter: sell limit at lo + 1 refused",
     "enter: a rest of an earlier round",
     "enter: side total above 4000000000",
+    "enter: after a leave, the same round",
+    "enter: after a leave, a later round",
+    "enter: after a leave, limit refused",
     "match: 4 blocks after open",
     "match: 3 blocks after open refused",
     "match: dropped",
     "match: three or more tickets each side",
     "match: above 2000000000",
+    "match: after the last ticket left",
     "bid: side 0",
     "bid: side 1",
     "bid: k 0",
@@ -131,6 +137,7 @@ const BORDERS: &[&str] = &[
     "settle: k L + 1 with some left",
     "settle: nothing left before the end",
     "settle: no tickets",
+    "settle: after the last ticket left",
     "claim: nothing sold",
     "claim: part sold",
     "claim: all sold",
@@ -139,18 +146,48 @@ const BORDERS: &[&str] = &[
     "claim: last of its round",
     "claim: last, quote to the tray",
     "claim: last, base to the tray",
+    "leave: side 0",
+    "leave: side 1",
+    "leave: others stay on the side",
+    "leave: last of its side, others stay on the other",
+    "leave: last of its round",
+    "leave: a rest of an earlier round",
+    "leave: above 2000000000",
+    "leave: another's resting ticket",
+    "leave: another's ticket in a round",
+    "leave: again refused",
+    "leave: in auction refused",
+    "leave: in paying refused",
 ];
 
-#[derive(Default)]
 struct Counts {
     borders: BTreeMap<&'static str, u64>,
     /// One bit for each ticket that holds the rest of an earlier round.
     rests: u64,
     /// By market, the sides that makers took in this round.
     bids: [[bool; 2]; 3],
+    /// Rounds begun so far, and by market the number of its round.
+    rounds: u64,
+    round_of: [u64; 3],
+    /// The round that each resting ticket left; 0 if none.
+    left: [u64; TICKETS],
+    /// By market, whether its round's last ticket left.
+    emptied: [bool; 3],
 }
 
 impl Counts {
+    fn new() -> Counts {
+        Counts {
+            borders: BTreeMap::new(),
+            rests: 0,
+            bids: [[false; 2]; 3],
+            rounds: 0,
+            round_of: [0; 3],
+            left: [0; TICKETS],
+            emptied: [false; 3],
+        }
+    }
+
     fn add_if(&mut self, holds: bool, name: &'static str) {
         if holds {
             *self.borders.entry(name).or_insert(0) += 1;
@@ -198,9 +235,9 @@ impl Counts {
         let digits = fields.iter().any(|field| field.len() > 10);
         self.add_if(digits, "line: value of more than ten digits");
         self.add_if(fields[0] == b"0", "line: kind 0");
-        self.add_if(fields[0] == b"11", "line: kind 11");
+        self.add_if(fields[0] == b"12", "line: kind 12");
         self.add_if(fields[0] == b"4294967295", "line: kind 4294967295");
-        let kind = (1..=10).find(|kind: &usize| fields[0] == kind.to_string().as_bytes());
+        let kind = (1..=KINDS).find(|kind: &usize| fields[0] == kind.to_string().as_bytes());
         if let Some(kind) = kind {
             let count = fields.len() - 1;
             self.add_if(count < FIELDS[kind], "line: too few fields");
@@ -280,6 +317,8 @@ impl Counts {
                 self.ticket(ticket, code);
                 if taken {
                     self.add_if(self.rests >> ticket & 1 == 1, "cancel: of a rest");
+                    self.add_if(self.left[ticket as usize] > 0, "cancel: after a leave");
+                    self.left[ticket as usize] = 0;
                 }
                 if code == 8 {
                     let in_round = was.tickets()[ticket as usize].place == Place::Round;
@@ -304,7 +343,11 @@ impl Counts {
                 self.add_if(early, "open: last block minus 1 refused");
                 self.add_if(taken && block == MOST, "open: last possible block");
                 if taken {
-                    self.bids[market as usize - 1] = [false; 2];
+                    let place = market as usize - 1;
+                    self.bids[place] = [false; 2];
+                    self.rounds += 1;
+                    self.round_of[place] = self.rounds;
+                    self.emptied[place] = false;
                 }
             }
             Call::Enter { ticket } => {
@@ -319,6 +362,17 @@ impl Counts {
                     } else {
                         self.add_if(limit == round.lo, "enter: sell limit at lo");
                         self.add_if(limit == round.lo + 1, "enter: sell limit at lo + 1 refused");
+                    }
+                    let place = held.market as usize - 1;
+                    let left = self.left[ticket as usize];
+                    let same = left == self.round_of[place];
+                    self.add_if(taken && same, "enter: after a leave, the same round");
+                    let later = left > 0 && !same;
+                    self.add_if(taken && later, "enter: after a leave, a later round");
+                    self.add_if(later && code == 15, "enter: after a leave, limit refused");
+                    if taken {
+                        self.left[ticket as usize] = 0;
+                        self.emptied[place] = false;
                     }
                 }
                 if taken {
@@ -348,6 +402,8 @@ impl Counts {
                         self.add_if(many, "match: three or more tickets each side");
                         let large = answer.first > 2_000_000_000 && answer.second > 2_000_000_000;
                         self.add_if(large, "match: above 2000000000");
+                        let emptied = self.emptied[market as usize - 1];
+                        self.add_if(emptied, "match: after the last ticket left");
                     }
                 }
             }
@@ -427,6 +483,8 @@ impl Counts {
                 if taken {
                     let both = self.bids[market as usize - 1] == [true; 2];
                     self.add_if(both, "bid: both sides in one round");
+                    let emptied = self.emptied[market as usize - 1];
+                    self.add_if(emptied, "settle: after the last ticket left");
                 }
             }
             Call::Claim { ticket } => {
@@ -454,6 +512,47 @@ impl Counts {
                     self.add_if(base > 0, "claim: last, base to the tray");
                 }
             }
+            Call::Leave { ticket, member } => {
+                self.member(member, code);
+                self.ticket(ticket, code);
+                if code == 1 || code == 4 {
+                    return;
+                }
+                let held = was.tickets()[ticket as usize];
+                if code == 8 {
+                    let resting = held.place == Place::Resting;
+                    self.add_if(resting, "leave: another's resting ticket");
+                    let in_round = held.place == Place::Round;
+                    self.add_if(in_round, "leave: another's ticket in a round");
+                    return;
+                }
+                let place = held.market as usize - 1;
+                let round = is.markets()[place];
+                if code == 9 {
+                    let left = self.left[ticket as usize];
+                    let again = left > 0 && left == self.round_of[place];
+                    self.add_if(again && round.phase == Phase::Collect, "leave: again refused");
+                }
+                if code == 11 {
+                    self.add_if(round.phase == Phase::Auction, "leave: in auction refused");
+                    self.add_if(round.phase == Phase::Paying, "leave: in paying refused");
+                }
+                if taken {
+                    let side = held.side as usize;
+                    self.add_if(side == 0, "leave: side 0");
+                    self.add_if(side == 1, "leave: side 1");
+                    let [same, other] = [side, 1 - side].map(|side| round.halves[side].total > 0);
+                    self.add_if(same, "leave: others stay on the side");
+                    let alone = !same && other;
+                    self.add_if(alone, "leave: last of its side, others stay on the other");
+                    self.add_if(round.marks == 0, "leave: last of its round");
+                    let rest = self.rests >> ticket & 1 == 1;
+                    self.add_if(rest, "leave: a rest of an earlier round");
+                    self.add_if(answer.first > 2_000_000_000, "leave: above 2000000000");
+                    self.left[ticket as usize] = self.round_of[place];
+                    self.emptied[place] = round.marks == 0;
+                }
+            }
         }
     }
 }
@@ -463,44 +562,12 @@ fn signed(fields: &[&[u8]], sign: u8) -> bool {
     fields.iter().any(|field| field.len() > 1 && field[0] == sign && field[1].is_ascii_digit())
 }
 
-/// All that was deposited and not withdrawn is somewhere, and the marks of
-/// the rounds are those of the tickets.
-fn books_are_right(x: &Exchange) -> bool {
-    let mut sums = *x.tray();
-    for row in x.balances() {
-        for (sum, amount) in sums.iter_mut().zip(row) {
-            *sum += amount;
-        }
-    }
-    let mut marks = [0u64; 3];
-    for (number, held) in x.tickets().iter().enumerate() {
-        match held.place {
-            Place::Free => {}
-            Place::Resting if held.side == 0 => sums[0] += held.offer,
-            Place::Resting => sums[held.market as usize] += held.offer,
-            Place::Round => marks[held.market as usize - 1] |= 1 << number,
-        }
-        if (held.place == Place::Free) != (held.offer == 0) {
-            return false;
-        }
-    }
-    for (place, round) in x.markets().iter().enumerate() {
-        sums[0] += round.holds[0];
-        sums[place + 1] += round.holds[1];
-        let closed = round.phase == Phase::Closed;
-        if round.marks != marks[place] || (closed && *round != Market::default()) {
-            return false;
-        }
-    }
-    sums == *x.supply()
-}
-
 /// Prints the counts and gives what must not be, one text for each.
 fn run(mut input: impl BufRead, mut output: impl Write) -> io::Result<Vec<String>> {
     let mut exchange = Exchange::new();
-    let mut table = [[0u64; 21]; 11];
+    let mut table = [[0u64; 21]; KINDS + 1];
     let mut foreign = BTreeMap::new();
-    let mut counts = Counts::default();
+    let mut counts = Counts::new();
     let mut total = 0u64;
     let mut accepted = 0u64;
     let mut wrong_books = 0u64;
@@ -521,12 +588,8 @@ fn run(mut input: impl BufRead, mut output: impl Write) -> io::Result<Vec<String
                 let was = exchange.clone();
                 let answer = exchange.call(call);
                 counts.call(&was, &exchange, call, answer);
-                let fine = if answer.code == 0 {
-                    books_are_right(&exchange)
-                } else {
-                    exchange == was && answer.first == 0 && answer.second == 0
-                };
-                wrong_books += u64::from(!fine);
+                let checked = books::check_call(&was, &exchange, call, answer);
+                wrong_books += u64::from(checked.is_err());
                 (call.kind(), answer.code)
             }
             None => (0, 20),

@@ -59,7 +59,10 @@ mod tests {
         assert_eq!(rewritten(b""), b"");
         assert_eq!(rewritten(b"\n"), b"");
         assert_eq!(rewritten(b"6,0"), b"6,0\n");
-        assert_eq!(rewritten(b"6,00\n6,0\n\n10,63\r\n6,1 \n11,5\n10,63"), b"6,0\n10,63\n");
+        assert_eq!(
+            rewritten(b"6,00\n6,0\n\n10,63\r\n6,1 \n11,5\n12,5,0\n11,5,0"),
+            b"6,0\n11,5,0\n"
+        );
         let longest = b"3,4294967295,4294967295,4294967295,4294967295,4294967295,4294967295\n";
         assert_eq!(rewritten(longest), longest);
     }

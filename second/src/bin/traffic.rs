@@ -8,13 +8,13 @@
 
 use second::chance::Chance;
 use second::engine::{bid_quote, MILLION, MOST};
-use second::lines::{FIELDS, LINE_MOST};
+use second::lines::{FIELDS, KINDS, LINE_MOST};
 use second::{read_call, Exchange, Market, Phase, Place, Ticket};
 use std::io::{self, BufWriter, Write};
 use std::process::ExitCode;
 
 /// The codes that refuse each kind.
-const REFUSALS: [&[u8]; 11] = [
+const REFUSALS: [&[u8]; KINDS + 1] = [
     &[],
     &[1, 2, 6, 14],
     &[1, 2, 6, 19],
@@ -26,6 +26,7 @@ const REFUSALS: [&[u8]; 11] = [
     &[1, 3, 5, 6, 11, 12, 16, 17, 18, 19],
     &[3, 11, 12, 13],
     &[4, 8, 9, 11],
+    &[1, 4, 8, 9, 11],
 ];
 
 /// Values that stand at or next to some border.
@@ -127,7 +128,7 @@ struct Traffic<W: Write> {
     /// Markets in use this season.
     markets: Vec<u64>,
     /// How often each kind met each code.
-    met: [[u64; 21]; 11],
+    met: [[u64; 21]; KINDS + 1],
     failed: Option<io::Error>,
 }
 
@@ -161,7 +162,7 @@ impl<W: Write> Traffic<W> {
             season: Season::Usual,
             season_left: 1_000,
             markets: vec![1, 2, 3],
-            met: [[0; 21]; 11],
+            met: [[0; 21]; KINDS + 1],
             failed: None,
         }
     }
@@ -243,6 +244,16 @@ impl<W: Write> Traffic<W> {
         let first = self.chance.below(64);
         let x = &self.exchange;
         (0..64).map(|i| (first + i) % 64).find(|&i| test(x, &x.tickets()[i as usize]))
+    }
+
+    /// The member of a ticket.
+    fn owner(&self, ticket: u64) -> u64 {
+        u64::from(self.exchange.tickets()[ticket as usize].member)
+    }
+
+    /// Any member but this one.
+    fn other_member(&mut self, member: u64) -> u64 {
+        (member + self.chance.between(1, 15)) % 16
     }
 
     /// A member with at least so much of a token, any of them.
@@ -333,6 +344,8 @@ impl<W: Write> Traffic<W> {
         for ticket in tickets {
             self.say(Draft::new(6, &[ticket]));
         }
+        let early = self.chance.pick(&tickets);
+        self.leave_and_enter(early);
         self.say(Draft::new(7, &[market, opened + 4]));
         // A cost that no bound can cover, if the price is high enough.
         self.say(Draft::new(8, &[market, 3, opened + 4, 1, MOST - 1_000, MOST]));
@@ -488,8 +501,7 @@ impl<W: Write> Traffic<W> {
             }
             4 => {
                 let ticket = self.find_ticket(|_, t| t.place == Place::Resting)?;
-                let member = u64::from(self.exchange.tickets()[ticket as usize].member);
-                Some(Draft::new(4, &[ticket, member]))
+                Some(Draft::new(4, &[ticket, self.owner(ticket)]))
             }
             5 => {
                 if self.market(market).phase != Phase::Closed {
@@ -544,11 +556,17 @@ impl<W: Write> Traffic<W> {
                 block += self.some_blocks();
                 (block <= MOST).then(|| Draft::new(9, &[market, block]))
             }
-            _ => {
+            10 => {
                 let ticket = self.find_ticket(|x, t| {
                     t.place == Place::Round && Self::phase_of(x, t) == Phase::Paying
                 })?;
                 Some(Draft::new(10, &[ticket]))
+            }
+            _ => {
+                let ticket = self.find_ticket(|x, t| {
+                    t.place == Place::Round && Self::phase_of(x, t) == Phase::Collect
+                })?;
+                Some(Draft::new(11, &[ticket, self.owner(ticket)]))
             }
         }
     }
@@ -629,7 +647,7 @@ impl<W: Write> Traffic<W> {
 
     /// One accepted call, or a few lines around a border.
     fn right_step(&mut self) {
-        if self.chance.once_in(12) && self.set_piece() {
+        if self.chance.once_in(11) && self.set_piece() {
             return;
         }
         let market = {
@@ -638,7 +656,7 @@ impl<W: Write> Traffic<W> {
         };
         let kinds: &[usize] = match self.market(market).phase {
             Phase::Closed => &[1, 1, 2, 3, 3, 3, 4, 5, 5, 5, 10],
-            Phase::Collect => &[1, 2, 3, 3, 3, 3, 4, 6, 6, 6, 6, 6, 6, 6, 7],
+            Phase::Collect => &[1, 2, 3, 3, 3, 3, 4, 6, 6, 6, 6, 6, 6, 6, 6, 7, 11],
             Phase::Auction => &[1, 3, 4, 6, 8, 8, 8, 8, 8, 8, 8, 9, 9],
             Phase::Paying => &[1, 2, 3, 8, 10, 10, 10, 10, 10, 10, 10],
         };
@@ -657,7 +675,7 @@ impl<W: Write> Traffic<W> {
     /// A few lines that meet a border exactly and miss it by one. False if
     /// there is none to be had now.
     fn set_piece(&mut self) -> bool {
-        match self.chance.below(8) {
+        match self.chance.below(9) {
             // Supply to the most, and one more.
             0 => {
                 if !self.chance.once_in(4) {
@@ -800,6 +818,8 @@ impl<W: Write> Traffic<W> {
                 self.say(draft);
                 true
             }
+            // Members who leave a round.
+            7 => self.leaving(),
             // Orders at and next to the round's bounds, all entered.
             _ => {
                 let Some(market) = self.find_market(Phase::Collect) else {
@@ -824,6 +844,68 @@ impl<W: Write> Traffic<W> {
                 true
             }
         }
+    }
+
+    /// A few lines around members who leave a round that collects. False if
+    /// there is no ticket for it now.
+    fn leaving(&mut self) -> bool {
+        match self.chance.below(4) {
+            0 | 1 => {
+                let Some(draft) = self.draft(11) else {
+                    return false;
+                };
+                self.leave_and_enter(draft.f[0]);
+            }
+            // Cancelled: not in the round, but after leaving it.
+            2 => {
+                let Some(draft) = self.draft(11) else {
+                    return false;
+                };
+                let cancel = Draft::new(4, &draft.f[..2]);
+                self.say(cancel);
+                self.say(draft);
+                self.say(cancel);
+            }
+            // All tickets of a small round, which then ends without them; the
+            // next one takes those whose limits suit it.
+            _ => {
+                let few = self.find_ticket(|x, t| {
+                    t.place == Place::Round
+                        && Self::phase_of(x, t) == Phase::Collect
+                        && x.markets()[t.market as usize - 1].marks.count_ones() <= 3
+                });
+                let Some(ticket) = few else { return false };
+                let market = u64::from(self.exchange.tickets()[ticket as usize].market);
+                let round = self.market(market);
+                let block = self.last().max(u64::from(round.opened) + 4);
+                let marked: Vec<u64> = (0..64).filter(|i| round.marks >> i & 1 == 1).collect();
+                for &ticket in &marked {
+                    self.say(Draft::new(11, &[ticket, self.owner(ticket)]));
+                }
+                if block > MOST {
+                    return true;
+                }
+                self.say(Draft::new(7, &[market, block]));
+                self.say(Draft::new(9, &[market, block]));
+                let next = [market, block, self.reference(), self.slack(), self.length()];
+                self.say(Draft::new(5, &next));
+                for ticket in marked {
+                    self.say(Draft::new(6, &[ticket]));
+                }
+            }
+        }
+        true
+    }
+
+    /// Another member cannot take a ticket out of its round; its owner can,
+    /// once, and it enters again.
+    fn leave_and_enter(&mut self, ticket: u64) {
+        let owner = self.owner(ticket);
+        let other = self.other_member(owner);
+        self.say(Draft::new(11, &[ticket, other]));
+        self.say(Draft::new(11, &[ticket, owner]));
+        self.say(Draft::new(11, &[ticket, owner]));
+        self.say(Draft::new(6, &[ticket]));
     }
 
     // Calls to be refused.
@@ -886,7 +968,7 @@ impl<W: Write> Traffic<W> {
                 let limit = self.side_limit(market, side);
                 Draft::new(3, &[ticket, member, market, side, limit, amount])
             }
-            4 => Draft::new(4, &[ticket, member]),
+            4 | 11 => Draft::new(kind, &[ticket, member]),
             5 => {
                 let draft = [market, block, self.reference(), self.slack(), self.length()];
                 Draft::new(5, &draft)
@@ -902,7 +984,7 @@ impl<W: Write> Traffic<W> {
 
     /// A call with one to three fields set to border values.
     fn mutated(&mut self) -> Draft {
-        let kind = self.chance.between(1, 10) as usize;
+        let kind = self.chance.between(1, KINDS as u64) as usize;
         let mut draft = self.start(kind);
         for _ in 0..self.chance.between(1, 3) {
             let place = self.chance.below(FIELDS[kind] as u64) as usize;
@@ -998,7 +1080,7 @@ impl<W: Write> Traffic<W> {
         match kind {
             1 | 2 => self.spoil_deposit(&mut draft, code)?,
             3 => self.spoil_order(&mut draft, code)?,
-            4 => self.spoil_cancel(&mut draft, code)?,
+            4 | 11 => self.spoil_owned(&mut draft, code)?,
             5 => self.spoil_open(&mut draft, code)?,
             6 | 10 => self.spoil_ticket(&mut draft, code)?,
             7 => self.spoil_match(&mut draft, code)?,
@@ -1096,27 +1178,31 @@ impl<W: Write> Traffic<W> {
         Some(())
     }
 
-    fn spoil_cancel(&mut self, draft: &mut Draft, code: u8) -> Option<()> {
+    /// Cancel (4) and leave (11).
+    fn spoil_owned(&mut self, draft: &mut Draft, code: u8) -> Option<()> {
+        let leave = draft.kind == 11;
         let f = &mut draft.f;
         match code {
             1 => f[1] = self.bad_member(),
             4 => f[0] = self.bad_ticket(),
             8 => match self.chance.below(3) {
                 0 => f[0] = self.find_ticket(|_, t| t.place == Place::Free)?,
-                1 => {
-                    f[0] = self.find_ticket(|_, t| t.place == Place::Resting)?;
-                    let owner = u64::from(self.exchange.tickets()[f[0] as usize].member);
-                    f[1] = (owner + self.chance.between(1, 15)) % 16;
-                }
-                _ => {
-                    f[0] = self.find_ticket(|_, t| t.place == Place::Round)?;
-                    let owner = u64::from(self.exchange.tickets()[f[0] as usize].member);
-                    f[1] = (owner + self.chance.between(1, 15)) % 16;
+                sort => {
+                    let place = if sort == 1 { Place::Resting } else { Place::Round };
+                    f[0] = self.find_ticket(|_, t| t.place == place)?;
+                    f[1] = self.other_member(self.owner(f[0]));
                 }
             },
+            9 => {
+                let place = if leave { Place::Resting } else { Place::Round };
+                f[0] = self.find_ticket(|_, t| t.place == place)?;
+                f[1] = self.owner(f[0]);
+            }
             _ => {
-                f[0] = self.find_ticket(|_, t| t.place == Place::Round)?;
-                f[1] = u64::from(self.exchange.tickets()[f[0] as usize].member);
+                let phase = self.chance.pick(&[Phase::Auction, Phase::Paying]);
+                f[0] = self
+                    .find_ticket(|x, t| t.place == Place::Round && Self::phase_of(x, t) == phase)?;
+                f[1] = self.owner(f[0]);
             }
         }
         if code == 1 && self.also() {
@@ -1337,7 +1423,7 @@ impl<W: Write> Traffic<W> {
 
     /// A line of 100,000 bytes that begins or ends with a call.
     fn long_line(&mut self) -> Vec<u8> {
-        let kind = self.chance.between(1, 10) as usize;
+        let kind = self.chance.between(1, KINDS as u64) as usize;
         let text = self.start(kind).text();
         if self.chance.once_in(2) {
             return padded(&mut self.chance, text, 100_000);
@@ -1352,7 +1438,7 @@ impl<W: Write> Traffic<W> {
     fn faulty(&mut self) -> Vec<u8> {
         let sort = self.sort;
         self.sort = (sort + 1) % SORTS;
-        let kind = self.chance.between(1, 10) as usize;
+        let kind = self.chance.between(1, KINDS as u64) as usize;
         let draft = self.start(kind);
         let mut numbers = draft.numbers();
         let mut text = draft.text();
@@ -1412,7 +1498,7 @@ impl<W: Write> Traffic<W> {
             53 => numbers.push("0".to_string()),
             54 => numbers.extend(vec!["1".to_string(); 6]),
             // Unknown kinds.
-            _ => numbers[0] = ["0", "11", "12", "4294967295"][sort - 55].to_string(),
+            _ => numbers[0] = ["0", "12", "13", "4294967295"][sort - 55].to_string(),
         }
         // The fault is in the text or in the numbers.
         if text != draft.text() {
@@ -1422,7 +1508,7 @@ impl<W: Write> Traffic<W> {
     }
 
     fn no_call(&mut self) -> Vec<u8> {
-        let kind = self.chance.between(1, 10) as usize;
+        let kind = self.chance.between(1, KINDS as u64) as usize;
         let draft = self.start(kind);
         let mut numbers = draft.numbers();
         let mut text = draft.text();
@@ -1434,7 +1520,7 @@ impl<W: Write> Traffic<W> {
             0 => return Vec::new(),
             1 => {
                 numbers[0] = c
-                    .pick(&["0", "11", "12", "20", "99", "100", "257", "4294967295", "4294967297"])
+                    .pick(&["0", "12", "13", "20", "99", "100", "257", "4294967295", "4294967297"])
                     .to_string();
             }
             2 => {

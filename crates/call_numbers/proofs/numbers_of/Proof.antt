@@ -44,6 +44,9 @@ enum-known-call-9 c = search needs
 enum-known-call-10 : tie.Need-enum-known-call-10
 enum-known-call-10 c = search needs
 
+enum-known-call-11 : tie.Need-enum-known-call-11
+enum-known-call-11 c = search needs
+
 returns : tie.Need-returns
 unfolding callNumbers
 returns c = row _ _ _ (c .before .call .given .1) refl (search needs)
@@ -84,6 +87,10 @@ returns-10 : tie.Need-returns-10
 unfolding callNumbers
 returns-10 c = row _ _ _ (c .before .call10 .given .1) refl (search needs)
 
+returns-11 : tie.Need-returns-11
+unfolding callNumbers
+returns-11 c = row _ _ _ (c .before .call11 .given .1) refl (search needs)
+
 pub numbers-of-spec : {M : Type 1} → statement M
 numbers-of-spec =
     tie.close
@@ -98,6 +105,7 @@ numbers-of-spec =
     enum-known-call-8
     enum-known-call-9
     enum-known-call-10
+    enum-known-call-11
     returns
     returns-2
     returns-3
@@ -107,4 +115,5 @@ numbers-of-spec =
     returns-7
     returns-8
     returns-9
-    returns-10)
+    returns-10
+    returns-11)

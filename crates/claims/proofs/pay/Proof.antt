@@ -16,7 +16,7 @@ share-of-requires : tie.Need-share-of-requires
 share-of-requires c κs =
     let b = c .before .before .pre .1 in
     let e = ap (λ (t : Totals). t .total .0) (c .totals-of .ensures) in
-    (omega (arith, e, b .claim .offer, b .order .offer), omega (arith, e, b .claim .offer))
+    (omega (arith, e, b .entered .offer, b .order .offer), omega (arith, e, b .entered .offer))
 
 minus-requires : tie.Need-minus-requires
 minus-requires c κs =

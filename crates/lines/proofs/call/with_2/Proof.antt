@@ -15,7 +15,10 @@ returns-3 : tie.Need-returns-3
 returns-3 c = of-kind _ 9 _ _ refl (omega (arith, c .if3 .taken))
 
 returns-4 : tie.Need-returns-4
-returns-4 c = no-two _ _ _ (c .before .before .if1 .left) (c .before .if2 .left) (c .if3 .left)
+returns-4 c = of-kind _ 11 _ _ refl (omega (arith, c .if4 .taken))
+
+returns-5 : tie.Need-returns-5
+returns-5 c = no-two _ _ _ (c .before .before .before .if1 .left) (c .before .before .if2 .left) (c .before .if3 .left) (c .if4 .left)
 
 pub with-2-spec : {M : Type 1} → statement M
-with-2-spec = tie.close (tie.spec returns returns-2 returns-3 returns-4)
+with-2-spec = tie.close (tie.spec returns returns-2 returns-3 returns-4 returns-5)

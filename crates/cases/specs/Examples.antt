@@ -1,14 +1,15 @@
--- Scripts: calls from the fresh state with the answers that document 01 gives, worked by hand, and readings of the state between them.
--- Every kind is accepted in them, on both sides where it has one, and every kind is refused with each code that the paper lets it have,
+-- Scripts: calls from the fresh state with the answers that document 01 gives, and document 02 for leave, worked by hand, and readings of the
+-- state between them.
+-- Every kind is accepted in them, on both sides where it has one, and every kind is refused with each code that the papers let it have,
 -- by each of the code's causes. Where two refusals hold at once, the lower number is answered.
 use Prim.Native.Nat.{ℕ}
 use mathlib.Core.Bool.{Bool, true, false, _||_, _&&_}
 use mathlib.Core.List.{List, [], _∷_, _++_}
 use lib.Dec.{eqb}
 use Rattle.model.specs.declared.call.Call.{Call}
-use Rattle.model.specs.declared.call.Call.the-variants.{Deposit, Withdraw, Order, Cancel, Open, Enter, Match, Bid, Settle, Claim}
+use Rattle.model.specs.declared.call.Call.the-variants.{Deposit, Withdraw, Order, Cancel, Open, Enter, Match, Bid, Settle, Claim, Leave}
 use Rattle.model.specs.Kinds.{Kind, kindOf}
 use Rattle.model.specs.Scripts.{Line, accepted, refused, balance-is, supply-is, residue-is, closed-is, callsOf, Accounts, accounts}
 
 -- Deposit and withdraw: new balances, the last member and the last token, a token's supply up to its largest, and a balance down to 0.
 unfoldable pub balancesMoved : List Line
@@ -827,6 +828,177 @@ supplyFull =
     ∷ accepted (Deposit 2 2 1) 1 0
     ∷ []
 
+-- Tickets that leave while their round collects: the offer rests again, and the buys' total is that of the ticket that stayed.
+unfoldable pub ticketsLeft : List Line
+ticketsLeft =
+    accepted (Deposit 0 0 1000) 1000 0
+    ∷ accepted (Deposit 1 1 300) 300 0
+    ∷ accepted (Order 0 0 1 0 3000000 600) 600 0
+    ∷ accepted (Order 1 1 1 1 2000000 300) 300 0
+    ∷ accepted (Order 2 0 1 0 3000000 100) 100 0
+    -- its market is closed: 9 and 11
+    ∷ refused (Leave 0 0) 9
+    ∷ accepted (Open 1 10 2500000 100000 10) 2750000 2250000
+    ∷ refused (Leave 0 16) 1
+    -- 1 and 4
+    ∷ refused (Leave 64 16) 1
+    ∷ refused (Leave 64 0) 4
+    -- 8 by a free ticket, and by another's: 8 and 9
+    ∷ refused (Leave 63 0) 8
+    ∷ refused (Leave 0 1) 8
+    ∷ refused (Leave 0 0) 9
+    ∷ accepted (Enter 0) 600 0
+    ∷ accepted (Enter 2) 700 0
+    -- another's, in a round
+    ∷ refused (Leave 0 1) 8
+    ∷ accepted (Leave 0 0) 600 0
+    -- it rests, and nothing came to its member
+    ∷ balance-is 0 0 300
+    ∷ refused (Leave 0 0) 9
+    ∷ refused (Claim 0) 9
+    ∷ accepted (Cancel 0 0) 600 0
+    ∷ balance-is 0 0 900
+    ∷ accepted (Enter 1) 300 0
+    -- Q 100, S 300: 100 / 2.5 is 40
+    ∷ accepted (Match 1 14) 40 100
+    -- 11 in auction, and while paying
+    ∷ refused (Leave 2 0) 11
+    ∷ accepted (Settle 1 25) 100 40
+    ∷ refused (Leave 2 0) 11
+    ∷ accepted (Claim 2) 100 40
+    ∷ closed-is 1 false
+    ∷ accepted (Claim 1) 40 100
+    ∷ closed-is 1 true
+    ∷ residue-is 0 0
+    ∷ residue-is 1 0
+    ∷ refused (Leave 1 1) 9
+    ∷ accepted (Cancel 1 1) 260 0
+    ∷ balance-is 0 0 900
+    ∷ balance-is 0 1 40
+    ∷ balance-is 1 0 100
+    ∷ balance-is 1 1 260
+    ∷ []
+
+-- A round's only ticket leaves it twice. Its settle has no tickets and closes the market; the ticket enters the next round, and stays in it.
+unfoldable pub leftEmpty : List Line
+leftEmpty =
+    accepted (Deposit 0 0 5) 5 0
+    ∷ accepted (Order 0 0 2 0 2000000000 5) 5 0
+    ∷ accepted (Open 2 0 1 0 1) 1 1
+    ∷ accepted (Enter 0) 5 0
+    ∷ accepted (Leave 0 0) 5 0
+    ∷ accepted (Enter 0) 5 0
+    ∷ accepted (Leave 0 0) 5 0
+    ∷ accepted (Match 2 4) 0 0
+    ∷ closed-is 2 false
+    -- nothing is left: in its own block
+    ∷ accepted (Settle 2 4) 0 0
+    ∷ closed-is 2 true
+    ∷ residue-is 0 0
+    ∷ residue-is 2 0
+    ∷ balance-is 0 0 0
+    ∷ accepted (Open 2 4 1 0 1) 1 1
+    ∷ accepted (Enter 0) 5 0
+    ∷ accepted (Match 2 8) 0 0
+    ∷ refused (Leave 0 0) 11
+    ∷ []
+
+-- A sell and a buy leave market 3's round, the last ticket and member among them. Every offer is another number, so that the totals, what the
+-- round holds and its tickets are felt to the unit. Market 1 is in auction meanwhile, and market 2 closed.
+unfoldable pub sellsLeft : List Line
+sellsLeft =
+    accepted (Deposit 15 3 200) 200 0
+    ∷ accepted (Deposit 14 3 100) 100 0
+    ∷ accepted (Deposit 13 0 300) 300 0
+    ∷ accepted (Deposit 2 0 80) 80 0
+    ∷ accepted (Deposit 15 2 11) 11 0
+    ∷ accepted (Order 63 15 3 1 2250000 170) 170 0
+    ∷ accepted (Order 62 14 3 1 2250000 90) 90 0
+    ∷ accepted (Order 61 14 3 1 2250000 8) 8 0
+    ∷ accepted (Order 5 13 3 0 2750000 240) 240 0
+    ∷ accepted (Order 6 13 3 0 2750000 35) 35 0
+    ∷ accepted (Order 7 15 2 1 1 11) 11 0
+    ∷ accepted (Open 1 6 1 0 1) 1 1
+    ∷ accepted (Match 1 10) 0 0
+    ∷ accepted (Open 3 10 2500000 100000 10) 2750000 2250000
+    ∷ accepted (Enter 63) 170 0
+    ∷ accepted (Enter 5) 240 0
+    ∷ accepted (Enter 62) 260 0
+    -- 1 and 8; by a member below and by one above
+    ∷ refused (Leave 63 16) 1
+    ∷ refused (Leave 63 14) 8
+    ∷ refused (Leave 62 15) 8
+    ∷ accepted (Leave 63 15) 170 0
+    ∷ balance-is 15 3 30
+    ∷ closed-is 3 false
+    -- the buys' 240 and 35; the sells' 90 and 8
+    ∷ accepted (Enter 6) 275 0
+    ∷ accepted (Enter 61) 98 0
+    ∷ accepted (Leave 5 13) 240 0
+    ∷ []
+
+-- Tickets 63 and 5 enter the same round again and ticket 62 leaves it for good, so that it is neither paid nor waited for. Market 2 collects
+-- while market 3 is in auction and paying: only its own market's phase holds a ticket.
+unfoldable pub sellsPaid : List Line
+sellsPaid =
+    accepted (Enter 63) 268 0
+    ∷ accepted (Leave 62 14) 90 0
+    ∷ refused (Leave 62 14) 9
+    -- the last block is still 10
+    ∷ refused (Open 2 9 1 0 1) 12
+    ∷ accepted (Open 2 10 1 0 1) 1 1
+    ∷ accepted (Enter 7) 11 0
+    ∷ accepted (Enter 5) 275 0
+    -- Q 275, S 178: 275 / 2.5 is 110
+    ∷ accepted (Match 3 14) 110 275
+    -- 8 and 11; 9 and 11; 11
+    ∷ refused (Leave 63 14) 8
+    ∷ refused (Leave 62 14) 9
+    ∷ refused (Leave 63 15) 11
+    ∷ accepted (Leave 7 15) 11 0
+    ∷ accepted (Enter 7) 11 0
+    -- k 5: 30 × 2.5
+    ∷ accepted (Bid 3 2 19 1 30 75) 30 75
+    ∷ accepted (Settle 3 25) 275 140
+    ∷ refused (Leave 63 14) 8
+    ∷ refused (Leave 62 14) 9
+    ∷ refused (Leave 63 15) 11
+    ∷ accepted (Leave 7 15) 11 0
+    -- sells: T 178, P 110 + 30, G 275 + 75. 133.7 and 334.3; 6.3 and 15.7
+    ∷ accepted (Claim 63) 134 334
+    ∷ refused (Leave 63 15) 9
+    -- buys: T 275, P 275, G 110
+    ∷ accepted (Claim 6) 35 14
+    ∷ accepted (Claim 5) 240 96
+    ∷ closed-is 3 false
+    ∷ accepted (Claim 61) 7 15
+    -- 350 - 349 quote, 178 - 30 - 36 - 1 - 110 base
+    ∷ residue-is 0 1
+    ∷ residue-is 3 1
+    ∷ closed-is 3 true
+    -- ticket 7 left market 2's round without tickets
+    ∷ accepted (Match 2 25) 0 0
+    ∷ accepted (Settle 2 25) 0 0
+    ∷ closed-is 2 true
+    ∷ residue-is 2 0
+    ∷ accepted (Cancel 63 15) 36 0
+    ∷ accepted (Cancel 62 14) 90 0
+    ∷ accepted (Cancel 61 14) 1 0
+    ∷ accepted (Cancel 7 15) 11 0
+    ∷ refused (Cancel 5 13) 8
+    ∷ balance-is 15 0 334
+    ∷ balance-is 15 3 66
+    ∷ balance-is 14 0 15
+    ∷ balance-is 14 3 93
+    ∷ balance-is 13 0 25
+    ∷ balance-is 13 3 110
+    ∷ balance-is 2 0 5
+    ∷ balance-is 2 3 30
+    ∷ []
+
+abbrev pub leftAndPaid : List Line
+leftAndPaid = sellsLeft ++ sellsPaid
+
 -- ---- all of them
 
 unfoldable pub examples : List (List Line)
@@ -846,6 +1018,9 @@ examples =
     ∷ lastPlaces
     ∷ (lastBlocks ++ lastSettle)
     ∷ supplyFull
+    ∷ ticketsLeft
+    ∷ leftEmpty
+    ∷ leftAndPaid
     ∷ []
 
 -- ---- the numbers of a whole run on the two rounds
@@ -862,6 +1037,16 @@ twoRoundsAccounts =
     ∷ accounts secondSettled 1 106 0 73 1 0 180
     ∷ accounts (callsOf twoRounds) 0 1048 0 0 2 0 1050
     ∷ accounts (callsOf twoRounds) 1 178 0 0 2 0 180
+    ∷ []
+
+-- and with tickets that left: they rest, and the round holds the 35 and the 90 + 8 of those that stayed; at its end it put 1 and 1 into the
+-- residue
+unfoldable pub leftAccounts : List Accounts
+leftAccounts =
+    accounts (callsOf sellsLeft) 0 105 240 35 0 0 380
+    ∷ accounts (callsOf sellsLeft) 3 32 170 98 0 0 300
+    ∷ accounts (callsOf leftAndPaid) 0 379 0 0 1 0 380
+    ∷ accounts (callsOf leftAndPaid) 3 299 0 0 1 0 300
     ∷ []
 
 -- ---- what the examples cover
