@@ -1,12 +1,11 @@
 //! What must hold of the exchange after every call. What is wrong is told by a
 //! text.
 
-use crate::engine::{Answer, Call, Exchange, Market, Phase, Place, Ticket, MARKETS};
+use crate::engine::{Answer, Call, Exchange, Half, Market, Phase, Place, Ticket, MARKETS, MEMBERS};
 
 /// All that was deposited and not withdrawn is somewhere, free tickets and
 /// closed markets are zero, and the rounds agree with their tickets: marks in
-/// every phase, totals until the settle, and what a round holds while it
-/// collects.
+/// every phase; totals, and what a round holds, until the settle.
 pub fn check(x: &Exchange) -> Result<(), &'static str> {
     let mut sums = *x.tray();
     for row in x.balances() {
@@ -17,28 +16,36 @@ pub fn check(x: &Exchange) -> Result<(), &'static str> {
     let mut marks = [0u64; MARKETS];
     let mut offers = [[0u64; 2]; MARKETS];
     for (number, held) in x.tickets().iter().enumerate() {
-        let free = held.place == Place::Free;
-        wrong_if(free && *held != Ticket::default(), "a free ticket is not zero")?;
-        wrong_if(!free && held.offer == 0, "a ticket in use offers nothing")?;
-        match held.place {
-            Place::Free => {}
-            Place::Resting if held.side == 0 => sums[0] += held.offer,
-            Place::Resting => sums[held.market as usize] += held.offer,
-            Place::Round => {
-                marks[held.market as usize - 1] |= 1 << number;
-                offers[held.market as usize - 1][held.side as usize] += held.offer;
-            }
+        if held.place == Place::Free {
+            wrong_if(*held != Ticket::default(), "a free ticket is not zero")?;
+            continue;
+        }
+        let market = held.market as usize;
+        let known = (1..=MARKETS).contains(&market) && held.side <= 1;
+        wrong_if(!known || held.member as usize >= MEMBERS, "an order is out of its ranges")?;
+        wrong_if(held.offer == 0, "a ticket in use offers nothing")?;
+        if held.place == Place::Round {
+            marks[market - 1] |= 1 << number;
+            offers[market - 1][held.side as usize] += held.offer;
+        } else {
+            sums[if held.side == 0 { 0 } else { market }] += held.offer;
         }
     }
     for (place, round) in x.markets().iter().enumerate() {
         let closed = round.phase == Phase::Closed;
         wrong_if(closed && *round != Market::default(), "a closed market is not zero")?;
         wrong_if(round.marks != marks[place], "the marks of a round are not its tickets")?;
-        let paying = round.phase == Phase::Paying;
-        let totals = round.halves.map(|half| half.total);
-        wrong_if(!paying && totals != offers[place], "a total is not its tickets' offers")?;
         let collects = round.phase == Phase::Collect;
-        wrong_if(collects && round.holds != totals, "a collecting round does not hold its totals")?;
+        let traded = round.halves.iter().any(|half| half.paid > 0 || half.got > 0);
+        wrong_if(collects && traded, "a collecting round has paid or got")?;
+        if round.phase != Phase::Paying {
+            for side in [0, 1] {
+                let Half { total, paid, .. } = round.halves[side];
+                wrong_if(total != offers[place][side], "a total is not its tickets' offers")?;
+                let kept = round.holds[side] + paid == total + round.halves[1 - side].got;
+                wrong_if(!kept, "a round does not hold its totals less paid plus got")?;
+            }
+        }
         sums[0] += round.holds[0];
         sums[place + 1] += round.holds[1];
     }
@@ -46,8 +53,8 @@ pub fn check(x: &Exchange) -> Result<(), &'static str> {
 }
 
 /// The books are right after a call. A refused one answers two zeros and
-/// changes nothing. A leave at once after an enter, or an enter after a leave,
-/// is accepted and gives the exchange that was there before.
+/// changes nothing. Only accepted deposits and withdrawals move the supply, by
+/// their amounts; enter and leave are as `check_move` says.
 pub fn check_call(
     was: &Exchange,
     is: &Exchange,
@@ -59,15 +66,55 @@ pub fn check_call(
         wrong_if(answer != Answer::refused(answer.code), "a refusal does not answer two zeros")?;
         return wrong_if(is != was, "a refusal changed something");
     }
-    let undo = match call {
-        Call::Enter { ticket } => {
-            Call::Leave { ticket, member: was.tickets()[ticket as usize].member }
-        }
-        Call::Leave { ticket, .. } => Call::Enter { ticket },
+    for (token, (was, is)) in was.supply().iter().zip(is.supply()).enumerate() {
+        let [came, went] = match call {
+            Call::Deposit { token: of, amount, .. } if of as usize == token => [amount, 0],
+            Call::Withdraw { token: of, amount, .. } if of as usize == token => [0, amount],
+            _ => [0, 0],
+        };
+        let right = was + u64::from(came) == is + u64::from(went);
+        wrong_if(!right, "the supply did not move by what came and went")?;
+    }
+    check_move(was, is, call, answer)
+}
+
+/// An accepted enter or leave moves its ticket, with its order, between rest
+/// and a round that collects; only its own member leaves. Enter answers its
+/// side's total and leave the offer. The other call at once after it is
+/// accepted and gives the exchange that was there before. Other calls pass.
+fn check_move(
+    was: &Exchange,
+    is: &Exchange,
+    call: Call,
+    answer: Answer,
+) -> Result<(), &'static str> {
+    let (ticket, from, to) = match call {
+        Call::Enter { ticket } => (ticket, Place::Resting, Place::Round),
+        Call::Leave { ticket, .. } => (ticket, Place::Round, Place::Resting),
         _ => return Ok(()),
     };
+    let place = ticket as usize;
+    let held = was.tickets().get(place).copied().unwrap_or_default();
+    wrong_if(held.place != from, "enter or leave of a ticket from the wrong place")?;
+    let moved = Ticket { place: to, ..held };
+    wrong_if(is.tickets()[place] != moved, "enter or leave does not just move the ticket")?;
+    let round_of = |x: &Exchange| x.markets()[held.market as usize - 1];
+    let collects = round_of(was).phase == Phase::Collect;
+    wrong_if(!collects, "enter or leave where the round does not collect")?;
+
+    let entered = |x| Answer::accepted(round_of(x).halves[held.side as usize].total, 0);
+    let left = Answer::accepted(held.offer, 0);
+    let (right, undo, undone) = match call {
+        Call::Leave { member, .. } => {
+            wrong_if(member != held.member, "a leave by another member")?;
+            (left, Call::Enter { ticket }, entered(was))
+        }
+        _ => (entered(is), Call::Leave { ticket, member: held.member }, left),
+    };
+    wrong_if(answer != right, "enter or leave answers another amount")?;
     let mut back = is.clone();
-    wrong_if(back.call(undo).code != 0 || back != *was, "enter and leave do not undo each other")
+    let same = back.call(undo) == undone && back == *was;
+    wrong_if(!same, "enter and leave do not undo each other")
 }
 
 fn wrong_if(wrong: bool, text: &'static str) -> Result<(), &'static str> {

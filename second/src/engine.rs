@@ -43,7 +43,7 @@ impl Answer {
 
     /// The answer of an accepted call. Both numbers are at most `MOST`.
     #[inline]
-    fn accepted(first: u64, second: u64) -> Answer {
+    pub(crate) fn accepted(first: u64, second: u64) -> Answer {
         Answer { code: 0, first: first as u32, second: second as u32 }
     }
 }
@@ -354,7 +354,7 @@ impl Exchange {
         Answer::accepted(offer, 0)
     }
 
-    /// The refusal of a ticket that is not this member's.
+    /// The refusals that cancel and leave share: 1, 4 and 8.
     fn not_owned(&self, ticket: u32, member: u32) -> Option<Answer> {
         if member >= MEMBERS as u32 {
             return Some(Answer::refused(1));
@@ -702,6 +702,15 @@ mod tests {
     fn wrong_tickets_are_told() {
         let x = in_auction();
         tells(&x, "a free ticket is not zero", &[|x| x.tickets[63].limit = 1]);
+        let ranges: [Change; 6] = [
+            |x| x.tickets[0].market = 0,
+            |x| x.tickets[0].side = 2,
+            |x| x.tickets[0].member = 16,
+            |x| x.tickets[5].market = 4,
+            |x| x.tickets[5].side = 2,
+            |x| x.tickets[5].member = 16,
+        ];
+        tells(&x, "an order is out of its ranges", &ranges);
         let nothing: [Change; 2] = [|x| x.tickets[0].offer = 0, |x| x.tickets[4].offer = 0];
         tells(&x, "a ticket in use offers nothing", &nothing);
     }
@@ -727,13 +736,23 @@ mod tests {
             |x| x.tickets[0].offer += 1,
         ];
         tells(&x, "a total is not its tickets' offers", &totals);
-        let holds: [Change; 2] = [|x| x.markets[0].holds[0] += 1, |x| x.markets[0].holds[1] -= 1];
-        tells(&x, "a collecting round does not hold its totals", &holds);
+        let traded: [Change; 2] =
+            [|x| x.markets[0].halves[0].paid = 1, |x| x.markets[0].halves[1].got = 1];
+        tells(&x, "a collecting round has paid or got", &traded);
+        let holds: [Change; 6] = [
+            |x| x.markets[0].holds[0] += 1,
+            |x| x.markets[0].holds[1] -= 1,
+            |x| x.markets[1].holds[0] -= 1,
+            |x| x.markets[1].holds[1] += 1,
+            |x| x.markets[1].halves[0].paid += 1,
+            |x| x.markets[1].halves[1].got -= 1,
+        ];
+        tells(&x, "a round does not hold its totals less paid plus got", &holds);
     }
 
     #[test]
     fn wrong_amounts_are_told() {
-        let changes: [Change; 9] = [
+        let changes: [Change; 7] = [
             |x| x.balances[0][0] += 1,
             |x| x.balances[15][3] += 1,
             |x| x.balances[1][1] -= 1,
@@ -741,12 +760,12 @@ mod tests {
             |x| x.tray[2] += 1,
             |x| x.tickets[4].offer -= 1,
             |x| x.tickets[5].offer += 1,
-            |x| x.markets[1].holds[0] += 1,
-            |x| x.markets[1].holds[1] -= 1,
         ];
         for x in [in_auction(), in_paying()] {
             tells(&x, "an amount came up or went missing", &changes);
         }
+        let holds: [Change; 2] = [|x| x.markets[1].holds[0] += 1, |x| x.markets[1].holds[1] -= 1];
+        tells(&in_paying(), "an amount came up or went missing", &holds);
     }
 
     #[test]
@@ -763,27 +782,86 @@ mod tests {
         assert_eq!(check_call(&was, &is, call, refused), Err("a refusal changed something"));
     }
 
+    /// An accepted call, its answer and the exchange after it, and that all of
+    /// it is right.
+    fn accepted(was: &Exchange, call: Call) -> (Exchange, Answer) {
+        let mut is = was.clone();
+        let answer = is.call(call);
+        assert_eq!(answer.code, 0, "{call:?}");
+        assert_eq!(check_call(was, &is, call, answer), Ok(()), "{call:?}");
+        (is, answer)
+    }
+
+    /// Each change of the exchange after an accepted call is told by this text.
+    fn call_tells(was: &Exchange, call: Call, text: &str, changes: &[Change]) {
+        let (is, answer) = accepted(was, call);
+        for change in changes {
+            let mut x = is.clone();
+            change(&mut x);
+            told(was, &x, call, answer, text);
+        }
+    }
+
+    /// This text tells what is wrong with an acceptance.
+    #[track_caller]
+    fn told(was: &Exchange, is: &Exchange, call: Call, answer: Answer, text: &str) {
+        assert_eq!(check_call(was, is, call, answer), Err(text), "{call:?}");
+    }
+
     #[test]
     fn wrong_acceptances_are_told() {
         let was = in_auction();
-        let call = Call::Deposit { member: 0, token: 0, amount: 5 };
-        let mut is = was.clone();
-        let answer = is.call(call);
-        assert_eq!(check_call(&was, &is, call, answer), Ok(()));
-        is.balances[0][0] -= 1;
-        let told = check_call(&was, &is, call, answer);
-        assert_eq!(told, Err("an amount came up or went missing"));
+        let deposit = Call::Deposit { member: 0, token: 0, amount: 5 };
+        let missing: [Change; 1] = [|x| x.balances[0][0] -= 1];
+        call_tells(&was, deposit, "an amount came up or went missing", &missing);
+        // balanced, but not by the amount or not in the token
+        let moved: [Change; 3] = [
+            |x| (x.supply[0], x.balances[0][0]) = (x.supply[0] + 1, x.balances[0][0] + 1),
+            |x| (x.supply[0], x.balances[0][0]) = (x.supply[0] - 5, x.balances[0][0] - 5),
+            |x| (x.supply[3], x.balances[0][3]) = (5, 5),
+        ];
+        let withdraw = Call::Withdraw { member: 2, token: 0, amount: 5 };
+        let cancel = Call::Cancel { ticket: 4, member: 0 };
+        for call in [deposit, withdraw, cancel, Call::Enter { ticket: 5 }] {
+            call_tells(&was, call, "the supply did not move by what came and went", &moved);
+        }
 
-        for call in [Call::Enter { ticket: 5 }, Call::Leave { ticket: 1, member: 1 }] {
-            let mut is = was.clone();
-            let answer = is.call(call);
-            assert_eq!(check_call(&was, &is, call, answer), Ok(()));
-            is.last_block += 1;
-            // it also moved the last block, or it did nothing
-            for is in [&is, &was] {
-                let told = check_call(&was, is, call, answer);
-                assert_eq!(told, Err("enter and leave do not undo each other"), "{call:?}");
+        let not_moved = "enter or leave does not just move the ticket";
+        let wrong_place = "enter or leave of a ticket from the wrong place";
+        let leave = Call::Leave { ticket: 1, member: 1 };
+        for call in [Call::Enter { ticket: 5 }, leave] {
+            let block: [Change; 1] = [|x| x.last_block += 1];
+            call_tells(&was, call, "enter and leave do not undo each other", &block);
+            let order: [Change; 2] = [
+                |x| (x.tickets[1].limit, x.tickets[5].limit) = (1, 1),
+                |x| (x.tickets[1].member, x.tickets[5].member) = (15, 15),
+            ];
+            call_tells(&was, call, not_moved, &order);
+            let (is, answer) = accepted(&was, call);
+            told(&was, &was, call, answer, not_moved);
+            told(&is, &is, call, answer, wrong_place);
+            let (first, second) = (answer.first + 1, answer.second + 1);
+            for answer in [Answer { first, ..answer }, Answer { second, ..answer }] {
+                told(&was, &is, call, answer, "enter or leave answers another amount");
             }
+        }
+        let (is, answer) = accepted(&was, leave);
+        let other = Call::Leave { ticket: 1, member: 2 };
+        told(&was, &is, other, answer, "a leave by another member");
+        for call in [Call::Enter { ticket: 64 }, Call::Leave { ticket: 64, member: 1 }] {
+            told(&was, &was, call, answer, wrong_place);
+        }
+        // in auction, and back, as if the round collected
+        let mut is = was.clone();
+        let offer = is.tickets[2].offer;
+        is.tickets[2].place = Place::Resting;
+        is.markets[1].marks &= !(1 << 2);
+        is.markets[1].halves[0].total -= offer;
+        is.markets[1].holds[0] -= offer;
+        let leave = Call::Leave { ticket: 2, member: 0 };
+        for (was, is, call) in [(&was, &is, leave), (&is, &was, Call::Enter { ticket: 2 })] {
+            let text = "enter or leave where the round does not collect";
+            told(was, is, call, Answer::accepted(offer, 0), text);
         }
     }
 }

@@ -30,6 +30,22 @@ pub const KINDS: usize = 11;
 /// Number of fields by kind.
 pub const FIELDS: [usize; KINDS + 1] = [0, 3, 3, 6, 2, 5, 1, 2, 6, 2, 1, 2];
 
+/// The codes that a kind can meet; kind 0 is a line that is no call.
+pub const CODES: [&[u8]; KINDS + 1] = [
+    &[NO_CALL],
+    &[0, 1, 2, 6, 14],
+    &[0, 1, 2, 6, 19],
+    &[0, 1, 3, 4, 5, 6, 7, 19],
+    &[0, 1, 4, 8, 9],
+    &[0, 3, 10, 11, 12],
+    &[0, 4, 8, 9, 11, 15],
+    &[0, 3, 11, 12, 13],
+    &[0, 1, 3, 5, 6, 11, 12, 16, 17, 18, 19],
+    &[0, 3, 11, 12, 13],
+    &[0, 4, 8, 9, 11],
+    &[0, 1, 4, 8, 9, 11],
+];
+
 /// Most numbers on a line: the kind and six fields.
 const NUMBERS: usize = 7;
 

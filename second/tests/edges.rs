@@ -462,8 +462,9 @@ fn leaving_takes_the_offer_off_its_side_alone() {
 #[test]
 fn leave_looks_at_the_tickets_own_market() {
     let mut house = House::new();
-    house.calls(&["1,0,0,20", "3,1,0,1,0,2000000000,10", "3,2,0,2,0,2000000000,10"]);
-    house.calls(&["5,1,0,1,0,1", "6,1", "7,1,4", "5,2,4,1,0,1", "6,2"]);
+    house.calls(&["1,0,0,30", "3,1,0,1,0,2000000000,10"]);
+    house.calls(&["3,2,0,2,0,2000000000,10", "3,3,0,2,0,2000000000,10"]);
+    house.calls(&["5,1,0,1,0,1", "6,1", "7,1,4", "5,2,4,1,0,1", "6,2", "6,3"]);
     house.refused(11, "11,1,0");
     assert_eq!(house.call("11,2,0"), (0, 10, 0));
     house.calls(&["6,2", "9,1,6"]);
@@ -472,11 +473,13 @@ fn leave_looks_at_the_tickets_own_market() {
     // It moves no block.
     assert_eq!(house.exchange.last_block(), 6);
     // Resting, it is 9 in any phase.
-    for line in ["10,1", "7,2,8", "9,2,8"] {
-        house.refused(9, "11,2,0");
-        house.calls(&[line]);
-    }
+    let after = [Phase::Auction, Phase::Paying, Phase::Closed];
     house.refused(9, "11,2,0");
+    for (line, phase) in ["7,2,8", "9,2,10", "10,3"].iter().zip(after) {
+        house.calls(&[line]);
+        assert_eq!(house.phase(2), phase);
+        house.refused(9, "11,2,0");
+    }
 }
 
 #[test]

@@ -60,6 +60,7 @@ bounds-refused =
       entered-unmarked = λ b. let h : _≡_ {A = ℕ} 0 1 = b .entered 63 (omega arith) _ refl .member in omega (arith, h);
       entered-sell-over = λ b. let h : 5 ≤ 4 = b .entered 63 (omega arith) _ refl .offer in omega (arith, h);
       entered-buy-over = λ b. let h : 5 ≤ 4 = b .entered 63 (omega arith) _ refl .offer in omega (arith, h);
+      auction-unmarked = λ b. let h : _≡_ {A = ℕ} 0 1 = b .entered 63 (omega arith) _ refl .member in omega (arith, h);
       paying-unmarked = λ b. let h : _≡_ {A = ℕ} 0 1 = b .entered 63 (omega arith) _ refl .member in omega (arith, h);
       paying-over = λ b. let h : 5 ≤ 4 = b .entered 63 (omega arith) _ refl .offer in omega (arith, h);
       entered-closed = λ b. let h : _≡_ {A = ℕ} 0 1 = b .entered 63 (omega arith) _ refl .member in omega (arith, h);

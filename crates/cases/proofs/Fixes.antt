@@ -9,7 +9,7 @@ use Rattle.model.specs.State.{balance, supply, residue, ticket}
 use Rattle.model.specs.Run.{Engine}
 use Rattle.model.specs.History.{logOf}
 use Rattle.model.specs.WholeRun.{Whole, SettledTicket, PaysOut, balances, resting}
-use Rattle.cases.specs.Fixes.{told, toldSettled, FixesSettled, FixesPaid, FixesLeft, answered, toldDay, FixesDay}
+use Rattle.cases.specs.Fixes.{told, toldSettled, FixesSettled, FixesPaid, FixesLeft, lateLeave, FixesLate, answered, toldDay, FixesDay}
 use Rattle.cases.specs.Literals.{order, terms}
 use Rattle.cases.specs.KindCases.{claimRequest}
 use Rattle.model.specs.Day.{dayOrders, dayCollect, dayAuction, printed}
@@ -141,6 +141,10 @@ fixes-left f x w =
       seller-3 = omega (arith, a153);
       buyer-0 = omega (arith, a130);
     }
+
+pub fixes-late : FixesLate
+unfolding told sellsLeft lateLeave past-computes
+fixes-late f x w = entered-of (ticket x 62) _ 3 _ (w .tickets .places-are 62 (omega arith) 3 (omega arith) (omega arith))
 
 -- ticket 0 of the day
 first-settled : SettledTicket toldDay 0 (terms 0 Buy 3000000) 1 600 (logOf (toldDay .rounds 1))

@@ -2,7 +2,7 @@
 use Prim.Native.Nat.{ℕ}
 use mathlib.Core.Bool.{true, false}
 use mathlib.Core.Path.{_≡_, ap, refl, subst}
-use mathlib.Core.List.{[], _∷_, map}
+use mathlib.Core.List.{[], _∷_, _++_, map}
 use Rattle.pricing.specs.declared.Side.the-variants.{Buy, Sell}
 use Rattle.model.specs.declared.state.TicketState.the-variants.{Free, Resting, Entered}
 use Rattle.model.specs.declared.state.Phase.the-variants.{Closed, Collect, Auction, Paying}
@@ -11,7 +11,9 @@ use Rattle.model.specs.declared.state.TicketState.{TicketState}
 use Rattle.model.specs.declared.call.Call.the-variants.{Enter, Leave}
 use Rattle.model.specs.State.{freshExchange, blankRound, orderIn, restingOr, phase, roundIn, totalsOf}
 use Rattle.model.specs.Calls.{accept}
-use Rattle.model.specs.Run.{stepOf}
+use Rattle.model.specs.Run.{stepOf, requestOf, eventsOf}
+use Rattle.model.specs.History.{absent, historyOf}
+use Rattle.model.specs.WholeRun.{partIn}
 use Rattle.cases.specs.Literals.{order}
 use Rattle.cases.specs.StateCases.{sizes, ticketTests, phaseTests, numbered, totalsFields, roundFields, roundsChanged, stateNumbers, statesChanged, EnterLeaveUsed, entering, leaving}
 use Rattle.ledger.proofs.Laws.{fresh-all-zero}
@@ -79,9 +81,12 @@ pub enter-leave-used : EnterLeaveUsed
 enter-leave-used =
     record {
       enter-leave = λ h x r e a.
-          subst (λ (t : TicketState). stepOf (stepOf x (Enter 63) .exchange) (Leave 63 (orderIn t .member)) ≡ accept (orderIn t .offer .0) 0 x) e (h x r 63 12 0 a);
+          subst (λ (t : TicketState). stepOf (stepOf x (Enter 63) .exchange) (Leave 63 (orderIn t .member)) ≡ accept (orderIn t .offer .0) 0 x) e (h x r 63 268 0 a);
       leave-enter = λ h x r e g a.
           subst (λ (t : Totals). stepOf (stepOf x (Leave 63 15) .exchange) (Enter 63) ≡ accept (t .total .0) 0 x) g
-          (subst (λ (t : TicketState). stepOf (stepOf x (Leave 63 15) .exchange) (Enter 63) ≡ accept (totalsOf (roundIn (phase x (orderIn t .market))) (orderIn t .side) .total .0) 0 x) e (h x r 63 15 5 0 a));
-      enter-forgotten = λ h qs. h qs entering leaving 63 15 refl refl 12 0 5 0;
+          (subst (λ (t : TicketState). stepOf (stepOf x (Leave 63 15) .exchange) (Enter 63) ≡ accept (totalsOf (roundIn (phase x (orderIn t .market))) (orderIn t .side) .total .0) 0 x) e (h x r 63 15 170 0 a));
+      left-absent = λ h qs a b e l.
+          subst (λ (t : TicketState). partIn (historyOf (eventsOf requestOf freshExchange (qs ++ (leaving ∷ []))) .rounds (orderIn t .market)) 63 ≡ absent) e
+          (h qs leaving 63 15 refl a b l);
+      enter-forgotten = λ h qs. h qs entering leaving 63 15 refl refl;
     }

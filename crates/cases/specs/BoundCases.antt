@@ -140,10 +140,11 @@ pub record BoundsRefused : Type 0 where
   pub rests-marked : NotBounded (withTicket (atMarket (Collect (marking plainRound))) 63 (Resting (order 15 3 Buy 1 1)))
   pub marked-free : NotBounded (atMarket (Collect (marking plainRound)))
   pub marked-other : NotBounded (withPhase (withTicket (atMarket (Collect (marking plainRound))) 63 (Entered (order 15 2 Buy 1 1))) 2 (Collect (marking (buying (totals 1 0 0) 1 0))))
-  -- a ticket that entered, not marked or above its side's total, while its round collects and once it pays, or in a market that is closed
+  -- a ticket that entered, not marked or above its side's total, in every phase
   pub entered-unmarked : NotBounded (collectingSell (selling (totals 5 0 0) 0 5))
   pub entered-sell-over : NotBounded (collectingSell (marking (selling (totals 4 0 0) 0 4)))
   pub entered-buy-over : NotBounded (collectingBuy (marking (buying (totals 4 0 0) 4 0)))
+  pub auction-unmarked : NotBounded (withTicket (atMarket (Auction (selling (totals 5 0 0) 0 5))) 63 (Entered (order 15 3 Sell 1 5)))
   pub paying-unmarked : NotBounded (payingSell (selling (totals 10 7 7) 9 9))
   pub paying-over : NotBounded (payingSell (marking (selling (totals 4 4 4) 9 9)))
   pub entered-closed : NotBounded (atTicket (Entered (order 15 3 Sell 1 5)))

@@ -891,7 +891,7 @@ leftEmpty =
     ∷ accepted (Leave 0 0) 5 0
     ∷ accepted (Match 2 4) 0 0
     ∷ closed-is 2 false
-    -- nothing is left: in its own block
+    -- nothing is left, so it settles in the block of its match
     ∷ accepted (Settle 2 4) 0 0
     ∷ closed-is 2 true
     ∷ residue-is 0 0

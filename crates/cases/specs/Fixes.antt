@@ -8,6 +8,7 @@ use Rattle.pricing.specs.declared.Side.the-variants.{Buy, Sell}
 use Rattle.model.specs.declared.state.TicketState.the-variants.{Free, Resting, Entered}
 use Rattle.model.specs.declared.state.Exchange.{Exchange}
 use Rattle.model.specs.declared.call.Call.{Call}
+use Rattle.model.specs.declared.call.Call.the-variants.{Match, Leave}
 use Rattle.model.specs.declared.answer.Answer.the-variants.{Accepted, Refused}
 use Rattle.model.specs.declared.answer.Refusal.the-variants.{WrongPhase, MalformedLine, BufferTooShort}
 use Rattle.model.specs.declared.answer.Outcome.{Outcome}
@@ -124,6 +125,14 @@ pub record LeftFixed (x : Exchange) : Type 0 where
 
 abbrev pub FixesLeft : Type 0
 FixesLeft = (f : Engine) (x : Exchange) → Whole f x toldLeft → LeftFixed x
+
+-- an engine that accepts ticket 62's leave after the match: Q 35, S 98, and 35 / 2.5 is 14. Whatever it answers, the ticket is still in the round
+unfoldable pub lateLeave : List Line
+lateLeave = accepted (Match 3 14) 14 35 ∷ accepted (Leave 62 14) 90 0 ∷ []
+
+abbrev pub FixesLate : Type 0
+FixesLate =
+    (f : Engine) (x : Exchange) → Whole f x (historyOf (told (sellsLeft ++ lateLeave))) → ticket x 62 ≡ Entered (order 14 3 Sell 2250000 90)
 
 -- the answers that the day prints, beside its lines
 unfoldable pub answered : List Call → List (ℕ × ℕ × ℕ) → List Event

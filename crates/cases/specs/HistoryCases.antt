@@ -123,8 +123,8 @@ twoTickets g first second = running (withPart (withPart (setStage emptyLog g) 63
 abbrev pub enteredAt : Stage → History
 enteredAt g = withOrder (withRound (withRound noHistory 2 (twoTickets collecting 4 5)) 3 (twoTickets g 6 7)) 63 (placed (terms 7 Buy 9) 3 6)
 
--- ticket 63 leaves, with any member in the call: while its round collects, at the other stages, and where no round runs; then a ticket
--- without an order
+-- ticket 63 leaves, and the call names 62, which is no member: history does not look at it. While its round collects, at the other stages, and
+-- where no round runs; then a ticket without an order
 unfoldable pub leaves : List History
 leaves =
     withAccepted (enteredAt collecting) (Leave 63 62) 6 0

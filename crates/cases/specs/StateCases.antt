@@ -19,8 +19,9 @@ use Rattle.model.specs.State.{isFree, isEntered, isClosed, isCollect, isAuction
 use Rattle.model.specs.State.{withStart, withTickets, withBuys, withSells, withQuote, withBase, withSides, withHeld, openedBetween, blankRound, balance, supply, residue, lastBlock, ticket, orderIn, phase, roundIn, withSupply, withResidue, withTicket, withPhase, withBlock, credit, debit, toResidue, freshExchange}
 use Rattle.model.specs.Calls.{accept, leftRound}
 use Rattle.model.specs.Run.{stepOf, Reachable, Request, requestOf, eventsOf, stateAfter}
-use Rattle.model.specs.History.{historyOf}
-use Rattle.model.specs.EnterLeave.{EnterLeave, LeaveEnter, EnterForgotten}
+use Rattle.model.specs.History.{absent, historyOf}
+use Rattle.model.specs.WholeRun.{partIn}
+use Rattle.model.specs.EnterLeave.{EnterLeave, LeaveEnter, LeftAbsent, EnterForgotten}
 use Rattle.cases.specs.Literals.{order, totals}
 
 -- how many rows, supplies, residues, tickets and markets a state has
@@ -130,33 +131,42 @@ statesChanged =
 
 -- ---- "Entering and leaving at once gives the very house that was there before"
 
--- ticket 63 rests with its sell of 5, which would make the sells' total 12; or is in the round, whose sells' total is 12
+-- ticket 63 rests with its sell of 170, which makes the sells' total 268; or is in the round, whose sells' total is 268. So it is in sellsLeft
+-- and sellsPaid
 abbrev pub EntersAndLeaves : Type 0
 EntersAndLeaves =
-    (x : Exchange) → Reachable x → ticket x 63 ≡ Resting (order 15 3 Sell 9 5) → stepOf x (Enter 63) .answer ≡ Accepted 12 0
-    → stepOf (stepOf x (Enter 63) .exchange) (Leave 63 15) ≡ accept 5 0 x
+    (x : Exchange) → Reachable x → ticket x 63 ≡ Resting (order 15 3 Sell 2250000 170) → stepOf x (Enter 63) .answer ≡ Accepted 268 0
+    → stepOf (stepOf x (Enter 63) .exchange) (Leave 63 15) ≡ accept 170 0 x
 
 abbrev pub LeavesAndEnters : Type 0
 LeavesAndEnters =
-    (x : Exchange) → Reachable x → ticket x 63 ≡ Entered (order 15 3 Sell 9 5) → roundIn (phase x 3) .sells ≡ totals 12 0 0
-    → stepOf x (Leave 63 15) .answer ≡ Accepted 5 0
-    → stepOf (stepOf x (Leave 63 15) .exchange) (Enter 63) ≡ accept 12 0 x
+    (x : Exchange) → Reachable x → ticket x 63 ≡ Entered (order 15 3 Sell 2250000 170) → roundIn (phase x 3) .sells ≡ totals 268 0 0
+    → stepOf x (Leave 63 15) .answer ≡ Accepted 170 0
+    → stepOf (stepOf x (Leave 63 15) .exchange) (Enter 63) ≡ accept 268 0 x
 
--- ticket 63 enters on line 40 and leaves on line 41, after any list
+-- ticket 63 enters on line 40 and leaves on line 41, after any list and with any answers
 abbrev pub entering : Request
-entering = record { line = 40; room = 10; call = Enter 63 }
+entering = record { line = 40; room = 11; call = Enter 63 }
 
 abbrev pub leaving : Request
-leaving = record { line = 41; room = 9; call = Leave 63 15 }
+leaving = record { line = 41; room = 11; call = Leave 63 15 }
+
+abbrev pub LeavesAbsent : Type 0
+LeavesAbsent =
+    (qs : List Request) (a b : ℕ)
+    → let x : Exchange = stateAfter requestOf freshExchange qs in
+    ticket x 63 ≡ Entered (order 15 3 Sell 2250000 170) → requestOf x leaving .answer ≡ Accepted a b
+    → partIn (historyOf (eventsOf requestOf freshExchange (qs ++ (leaving ∷ []))) .rounds 3) 63 ≡ absent
 
 abbrev pub EntersForgotten : Type 0
 EntersForgotten =
-    (qs : List Request)
+    (qs : List Request) (a b c d : ℕ)
     → let x : Exchange = stateAfter requestOf freshExchange qs in
-    requestOf x entering .answer ≡ Accepted 12 0 → requestOf (requestOf x entering .exchange) leaving .answer ≡ Accepted 5 0
+    requestOf x entering .answer ≡ Accepted a b → requestOf (requestOf x entering .exchange) leaving .answer ≡ Accepted c d
     → historyOf (eventsOf requestOf freshExchange (qs ++ (entering ∷ leaving ∷ []))) ≡ historyOf (eventsOf requestOf freshExchange qs)
 
 pub record EnterLeaveUsed : Type 0 where
   pub enter-leave : EnterLeave → EntersAndLeaves
   pub leave-enter : LeaveEnter → LeavesAndEnters
+  pub left-absent : LeftAbsent → LeavesAbsent
   pub enter-forgotten : EnterForgotten → EntersForgotten

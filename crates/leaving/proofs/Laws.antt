@@ -22,17 +22,17 @@ use Rattle.model.specs.Calls.{minusTotal, leftRound}
 use Rattle.parts.specs.Parts.{refusedJoined, leftOn, leaveOn}
 
 -- the round that a buy, or a sell, of n leaves, with its set and its side as they were worked out
-abbrev pub boughtOut : Round → ℕ → ℕ → Totals → Round
-boughtOut r n tickets buys = withTickets (withHeld (withSides r buys (r .sells)) (r .quote .0 - n) (r .base .0)) tickets
+abbrev pub boughtFrom : Round → ℕ → ℕ → Totals → Round
+boughtFrom r n tickets buys = withTickets (withHeld (withSides r buys (r .sells)) (r .quote .0 - n) (r .base .0)) tickets
 
-abbrev pub soldOut : Round → ℕ → ℕ → Totals → Round
-soldOut r n tickets sells = withTickets (withHeld (withSides r (r .buys) sells) (r .quote .0) (r .base .0 - n)) tickets
+abbrev pub soldFrom : Round → ℕ → ℕ → Totals → Round
+soldFrom r n tickets sells = withTickets (withHeld (withSides r (r .buys) sells) (r .quote .0) (r .base .0 - n)) tickets
 
 module _ (r : Round) (k : ℕ) (side : Side) (n : ℕ) where
-  pub buy-left : side ≡ Buy → boughtOut r n (removed (r .tickets) k) (minusTotal (r .buys) n) ≡ leftRound r k side n
+  pub buy-left : side ≡ Buy → boughtFrom r n (removed (r .tickets) k) (minusTotal (r .buys) n) ≡ leftRound r k side n
   buy-left e = rw (e, sub-zero (r .base .0))
 
-  pub sell-left : side ≡ Sell → soldOut r n (removed (r .tickets) k) (minusTotal (r .sells) n) ≡ leftRound r k side n
+  pub sell-left : side ≡ Sell → soldFrom r n (removed (r .tickets) k) (minusTotal (r .sells) n) ≡ leftRound r k side n
   sell-left e = rw (e, sub-zero (r .quote .0))
 
 -- an accepted leave, with its round as it was worked out

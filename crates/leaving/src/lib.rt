@@ -65,7 +65,7 @@ fn left_round(r: Round, ticket: u32, side: Side, offer: Amount) -> Round
 }
 
 // Leave of a ticket that is in a round, by its own member: only while the round collects.
-fn leave_round(t: Ticket, market: Market, ticket: u32, o: Order) -> Joined
+fn leave_entered(t: Ticket, market: Market, ticket: u32, o: Order) -> Joined
     requires { ⌜ (ticket < 64) × (t .state ≡ Entered o) × LeaveBounds t market ⌝ }
     ensures { λ p. ⌜ p ≡ leaveOn t market ticket (o .member) ⌝ }
 {
@@ -109,7 +109,7 @@ pub fn leave(t: Ticket, market: Market, ticket: u32, member: u32) -> Joined
             if o.member != member {
                 return refused(t, market, Refusal::NoSuchOrder);
             }
-            leave_round(t, market, ticket, o)
+            leave_entered(t, market, ticket, o)
         }
     }
 }

@@ -11,7 +11,7 @@ use borrow.Author.Tests.{eq-eqb, le-ltb}
 use Rattle.model.specs.Answers.{answerLine}
 use Rattle.model.specs.Bounds.{Bounded, CollectBounds, EnteredBounds, OrderBounds, PhaseBounds, TicketBounds}
 use Rattle.model.specs.Calls.{accept, cancelForm, enterRest, enterTests, enterWith, enteredRound, leaveRest, leaveTests, leaveWith, leftRound, refuse, ticketForm}
-use Rattle.model.specs.EnterLeave.{EnterForgotten, EnterLeave, LeaveEnter}
+use Rattle.model.specs.EnterLeave.{EnterForgotten, EnterLeave, LeaveEnter, LeftAbsent}
 use Rattle.model.specs.History.{Current, History, Part, PlacedOrder, RoundLog, Stage, absent, auctioning, changedAt, collecting, historyFrom, historyOf, idle, logOf, marketIn, noHistory, partOf, put, running, setPart, setRounds, setStage, settled, withAccepted, withEnter, withEvent, withLeave, withPart}
 use Rattle.model.specs.Run.{Request, eventsOf, requestOf, stateAfter, stepOf}
 use Rattle.model.specs.State.{closedMarket, freeTicket, freshExchange, marketAt, orderIn, phase, roundIn, setMarket, setMarkets, setTickets, ticket, totalsOf, withHeld, withPhase, withSides, withTicket, withTickets}
@@ -38,7 +38,7 @@ use Rattle.pricing.specs.declared.Totals.{Totals}
 use Rattle.ticket_set.specs.TicketSet.{bit}
 use Rattle.units.specs.Counts.{amount}
 use Rattle.model.proofs.Inv.{Inv, PartOk, RoundOk}
-use Rattle.model.proofs.KeepsEntries.{Told, at-rest, enter-tells, in-round, leave-tells, marketPhase, oOk, order, part-is, rOk, runs}
+use Rattle.model.proofs.KeepsEntries.{Told, at-rest, enter-tells, in-round, leave-tells, marketPhase, oOk, order, part-is, part-told, rOk, runs}
 use Rattle.model.proofs.Reach.{reachable-inv}
 use Rattle.model.proofs.ReachBounds.{reachable-bounded}
 use Rattle.model.proofs.Reading.{phase-same, put-each, put-other, put-same, ticket-same}
@@ -205,6 +205,15 @@ leaves-enters x h y i k member p =
     ap (λ (out : Outcome). stepOf (out .exchange) (Call.Enter k)) (step-passed x (Call.Leave k member) p)
     ∙ left-enters x h k (t .0) (order x k) r (oOk x y i k in-round t) (t .2) (t .1) (w .within)
 
+leaves-absent : (x : Exchange) (y : History) → Inv x y → (k member : ℕ) → Passed (leaveTests x k member)
+    → partIn (withLeave y k (y .orders k) .rounds (order x k .market)) k ≡ absent
+leaves-absent x y i k member p =
+    let n : ℕ = order x k .market in
+    let b : RoundLog = logOf (y .rounds n) in
+    ap (λ (v : History). partIn (v .rounds n) k) (sym (part-told x y i k in-round (leave-tells x k member p) (λ v. absent)))
+    ∙ ap (λ (c : Current). partIn c k) (put-same (y .rounds) n (running (withPart b k absent)))
+    ∙ put-same (b .part) k absent
+
 enters-forgotten : (x : Exchange) (y : History) → Inv x y → (k : ℕ) → Passed (enterTests x k) → withLeave (withEnter y k (y .orders k)) k (y .orders k) ≡ y
 enters-forgotten x y i k p =
     let t : Told x k at-rest = enter-tells x k p in
@@ -235,13 +244,30 @@ unfolding historyFrom eventsOf stateAfter
 told-more x y [] rs = refl
 told-more x y (q ∷ qs) rs = told-more (requestOf x q .exchange) (withEvent y (q .call) (requestOf x q .answer)) qs rs
 
--- of two requests more, whose calls and answers are known
+-- of one request more, and of two, whose calls and answers are known
+one-told : (x : Exchange) (y : History) (q : Request) (c : Call) (s : Answer) → q .call ≡ c → requestOf x q .answer ≡ s
+    → historyFrom y (eventsOf requestOf x (q ∷ [])) ≡ withEvent y c s
+unfolding historyFrom eventsOf
+one-told x y q c s ec es = ap₂ (withEvent y) ec es
+
 two-told : (x : Exchange) (y : History) (p q : Request) (c d : Call) (s t : Answer)
     → p .call ≡ c → q .call ≡ d → requestOf x p .answer ≡ s → requestOf (requestOf x p .exchange) q .answer ≡ t
     → historyFrom y (eventsOf requestOf x (p ∷ q ∷ [])) ≡ withEvent (withEvent y c s) d t
 unfolding historyFrom eventsOf
 two-told x y p q c d s t ec ed es et =
-    ap₂ (withEvent (withEvent y (p .call) (requestOf x p .answer))) ed et ∙ ap (λ (v : History). withEvent v d t) (ap₂ (withEvent y) ec es)
+    one-told (requestOf x p .exchange) (withEvent y (p .call) (requestOf x p .answer)) q d t ed et
+    ∙ ap (λ (v : History). withEvent v d t) (one-told x y p c s ec es)
+
+-- of a leave after a list, and of an enter and a leave after it
+pub left-absent : LeftAbsent
+unfolding withEvent withAccepted
+left-absent qs leave k member el a b la =
+    let x : Exchange = stateAfter requestOf freshExchange qs in
+    let y : History = historyOf (eventsOf requestOf freshExchange qs) in
+    let e : stepOf x (Call.Leave k member) .answer ≡ Accepted a b = subst (λ (v : Call). stepOf x v .answer ≡ Accepted a b) el (request-accepted x leave a b la) in
+    ap (λ (v : History). partIn (v .rounds (order x k .market)) k)
+    (told-more freshExchange noHistory qs (leave ∷ []) ∙ one-told x y leave (Call.Leave k member) (Accepted a b) el la)
+    ∙ leaves-absent x y (run-keeps freshExchange noHistory fresh-inv qs) k member (accepted-passed x (Call.Leave k member) a b e)
 
 pub enter-forgotten : EnterForgotten
 unfolding withEvent withAccepted

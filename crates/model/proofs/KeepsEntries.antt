@@ -336,7 +336,7 @@ module _ (h : Exchange) (y : History) (i : Inv h y) (k : ℕ) (from : Place) (te
         }
 
   -- history, which has the ticket's order, makes the ticket's part q
-  part-told : (q : PlacedOrder → Part)
+  pub part-told : (q : PlacedOrder → Part)
       → withRound y mk (running (withPart b k (q (placedIn (Resting o)))))
       ≡ withRound y (marketIn (y .orders k)) (changedAt collecting (λ b. withPart b k (q (y .orders k))) (y .rounds (marketIn (y .orders k))))
   part-told q =

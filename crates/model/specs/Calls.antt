@@ -449,7 +449,7 @@ claimOf x k = decide (claimTests x k) (refuse x) (claimDone x k)
 
 -- ---- 11 Leave: ticket, member; its form is cancel's
 
--- "1, 4, 8 as for cancel, then 9 when the ticket is in no round, then 11 when the phase isn't collect"
+-- 8 "as for cancel"; "9 when the ticket is in no round"; "11 when the phase isn't collect"
 abbrev pub leaveRest : TicketState → Phase → (member : ℕ) → List (Test Refusal)
 leaveRest t p member =
     when (isFree t || not (eqb (orderIn t .member) member)) NoSuchOrder
@@ -457,10 +457,11 @@ leaveRest t p member =
     ∷ when (not (isCollect p)) WrongPhase
     ∷ []
 
+-- "1, 4, 8 as for cancel, then 9 .., then 11": the phase of the market of the ticket's order
 abbrev pub leaveTests : Exchange → ℕ → ℕ → List (Test Refusal)
 leaveTests x k member = cancelForm k member ++ leaveRest (ticket x k) (phase x (orderIn (ticket x k) .market)) member
 
--- a side with n fewer offered
+-- a side with n less offered
 abbrev pub minusTotal : Totals → ℕ → Totals
 minusTotal t n = record { total = amount (t .total .0 - n); paid = t .paid; got = t .got }
 

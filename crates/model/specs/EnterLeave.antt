@@ -11,7 +11,8 @@ use Rattle.model.specs.declared.answer.Answer.the-variants.{Accepted}
 use Rattle.model.specs.State.{ticket, orderIn, phase, roundIn, totalsOf, freshExchange}
 use Rattle.model.specs.Calls.{accept}
 use Rattle.model.specs.Run.{stepOf, Reachable, Request, requestOf, eventsOf, stateAfter}
-use Rattle.model.specs.History.{historyOf}
+use Rattle.model.specs.History.{History, absent, historyOf}
+use Rattle.model.specs.WholeRun.{partIn}
 
 -- an enter that is accepted, and then its member's leave, which answers the offer and 0
 abbrev pub EnterLeave : Type 0
@@ -27,6 +28,15 @@ LeaveEnter =
     → let o : Order = orderIn (ticket x k) in
     let r : Round = roundIn (phase x (o .market)) in
     stepOf (stepOf x (Call.Leave k member) .exchange) (Call.Enter k) ≡ accept (totalsOf r (o .side) .total .0) 0 x
+
+-- after any list of requests, a leave that is accepted: its ticket is none of its round's, whatever was told since its enter
+abbrev pub LeftAbsent : Type 0
+LeftAbsent =
+    (qs : List Request) (leave : Request) (k member : ℕ) → leave .call ≡ Call.Leave k member
+    → let x : Exchange = stateAfter requestOf freshExchange qs in
+    (a b : ℕ) → requestOf x leave .answer ≡ Accepted a b
+    → let y : History = historyOf (eventsOf requestOf freshExchange (qs ++ (leave ∷ []))) in
+    partIn (y .rounds (orderIn (ticket x k) .market)) k ≡ absent
 
 -- a list of requests with an enter and a leave of the same ticket after it, both accepted, tells history what the list alone tells
 abbrev pub EnterForgotten : Type 0

@@ -5,28 +5,12 @@
 //! code that it cannot meet, it ends with status 1 after the counts and says
 //! why on standard error.
 
-use second::engine::{bid_quote, MILLION, MOST, TICKETS};
-use second::lines::{FIELDS, KINDS, LINE_MOST};
+use second::engine::{bid_quote, MARKETS, MILLION, MOST, TICKETS};
+use second::lines::{CODES, FIELDS, KINDS, LINE_MOST, NO_CALL};
 use second::{books, read_call, Answer, Call, Exchange, Phase, Place};
 use std::collections::BTreeMap;
 use std::io::{self, BufRead, BufReader, Write};
 use std::process::ExitCode;
-
-/// The codes that a kind can meet; kind 0 is a line that is no call.
-const CODES: [&[usize]; KINDS + 1] = [
-    &[20],
-    &[0, 1, 2, 6, 14],
-    &[0, 1, 2, 6, 19],
-    &[0, 1, 3, 4, 5, 6, 7, 19],
-    &[0, 1, 4, 8, 9],
-    &[0, 3, 10, 11, 12],
-    &[0, 4, 8, 9, 11, 15],
-    &[0, 3, 11, 12, 13],
-    &[0, 1, 3, 5, 6, 11, 12, 16, 17, 18, 19],
-    &[0, 3, 11, 12, 13],
-    &[0, 4, 8, 9, 11],
-    &[0, 1, 4, 8, 9, 11],
-];
 
 /// Every border that is counted, so that those not met show as 0.
 const BORDERS: &[&str] = &[
@@ -54,6 +38,8 @@ const BORDERS: &[&str] = &[
     "line: too few fields",
     "line: too many fields",
     "line: kind 0",
+    "line: kind 11 with one field",
+    "line: kind 11 with three fields",
     "line: kind 12",
     "line: kind 4294967295",
     "line: last without byte 10",
@@ -105,12 +91,14 @@ const BORDERS: &[&str] = &[
     "enter: after a leave, the same round",
     "enter: after a leave, a later round",
     "enter: after a leave, limit refused",
+    "enter: after a leave, its round went on",
     "match: 4 blocks after open",
     "match: 3 blocks after open refused",
     "match: dropped",
     "match: three or more tickets each side",
     "match: above 2000000000",
     "match: after the last ticket left",
+    "match: above 0, some left and others stayed",
     "bid: side 0",
     "bid: side 1",
     "bid: k 0",
@@ -143,6 +131,7 @@ const BORDERS: &[&str] = &[
     "claim: all sold",
     "claim: pays and gets nothing",
     "claim: above 2000000000",
+    "claim: some left and others stayed",
     "claim: last of its round",
     "claim: last, quote to the tray",
     "claim: last, base to the tray",
@@ -153,11 +142,30 @@ const BORDERS: &[&str] = &[
     "leave: last of its round",
     "leave: a rest of an earlier round",
     "leave: above 2000000000",
+    "leave: market 1",
+    "leave: market 2",
+    "leave: market 3",
+    "leave: ticket 0",
+    "leave: ticket 63",
+    "leave: member 0",
+    "leave: member 15",
+    "leave: a second time, the same round",
+    "leave: a round that can never be matched",
+    "leave: another market in auction",
+    "leave: another market in paying",
+    "leave: member and ticket out of range",
+    "leave: a free ticket",
     "leave: another's resting ticket",
     "leave: another's ticket in a round",
+    "leave: another's ticket in auction",
+    "leave: another's ticket in paying",
     "leave: again refused",
+    "leave: resting, market closed",
+    "leave: resting, market in auction",
+    "leave: resting, market in paying",
     "leave: in auction refused",
     "leave: in paying refused",
+    "leave: refused while another market collects",
 ];
 
 struct Counts {
@@ -165,14 +173,15 @@ struct Counts {
     /// One bit for each ticket that holds the rest of an earlier round.
     rests: u64,
     /// By market, the sides that makers took in this round.
-    bids: [[bool; 2]; 3],
+    bids: [[bool; 2]; MARKETS],
     /// Rounds begun so far, and by market the number of its round.
     rounds: u64,
-    round_of: [u64; 3],
+    round_of: [u64; MARKETS],
     /// The round that each resting ticket left; 0 if none.
     left: [u64; TICKETS],
-    /// By market, whether its round's last ticket left.
-    emptied: [bool; 3],
+    /// By market, one bit for each ticket that left its round; from the match
+    /// on, for those that stayed away.
+    leavers: [u64; MARKETS],
 }
 
 impl Counts {
@@ -180,11 +189,11 @@ impl Counts {
         Counts {
             borders: BTreeMap::new(),
             rests: 0,
-            bids: [[false; 2]; 3],
+            bids: [[false; 2]; MARKETS],
             rounds: 0,
-            round_of: [0; 3],
+            round_of: [0; MARKETS],
             left: [0; TICKETS],
-            emptied: [false; 3],
+            leavers: [0; MARKETS],
         }
     }
 
@@ -242,6 +251,8 @@ impl Counts {
             let count = fields.len() - 1;
             self.add_if(count < FIELDS[kind], "line: too few fields");
             self.add_if(count > FIELDS[kind], "line: too many fields");
+            self.add_if(kind == 11 && count == 1, "line: kind 11 with one field");
+            self.add_if(kind == 11 && count == 3, "line: kind 11 with three fields");
         }
     }
 
@@ -347,11 +358,17 @@ impl Counts {
                     self.bids[place] = [false; 2];
                     self.rounds += 1;
                     self.round_of[place] = self.rounds;
-                    self.emptied[place] = false;
+                    self.leavers[place] = 0;
                 }
             }
             Call::Enter { ticket } => {
                 self.ticket(ticket, code);
+                if code == 11 {
+                    let place = was.tickets()[ticket as usize].market as usize - 1;
+                    let left = self.left[ticket as usize] == self.round_of[place];
+                    let on = left && was.markets()[place].phase != Phase::Closed;
+                    self.add_if(on, "enter: after a leave, its round went on");
+                }
                 if taken || code == 15 {
                     let held = was.tickets()[ticket as usize];
                     let round = was.markets()[held.market as usize - 1];
@@ -372,7 +389,6 @@ impl Counts {
                     self.add_if(later && code == 15, "enter: after a leave, limit refused");
                     if taken {
                         self.left[ticket as usize] = 0;
-                        self.emptied[place] = false;
                     }
                 }
                 if taken {
@@ -402,8 +418,13 @@ impl Counts {
                         self.add_if(many, "match: three or more tickets each side");
                         let large = answer.first > 2_000_000_000 && answer.second > 2_000_000_000;
                         self.add_if(large, "match: above 2000000000");
-                        let emptied = self.emptied[market as usize - 1];
+                        let leavers = &mut self.leavers[market as usize - 1];
+                        *leavers &= !round.marks;
+                        let left = *leavers > 0;
+                        let emptied = left && round.marks == 0;
                         self.add_if(emptied, "match: after the last ticket left");
+                        let stayed = left && answer.first > 0;
+                        self.add_if(stayed, "match: above 0, some left and others stayed");
                     }
                 }
             }
@@ -483,7 +504,7 @@ impl Counts {
                 if taken {
                     let both = self.bids[market as usize - 1] == [true; 2];
                     self.add_if(both, "bid: both sides in one round");
-                    let emptied = self.emptied[market as usize - 1];
+                    let emptied = self.leavers[market as usize - 1] > 0 && round.marks == 0;
                     self.add_if(emptied, "settle: after the last ticket left");
                 }
             }
@@ -504,6 +525,7 @@ impl Counts {
                 self.add_if(answer.first > 0 && answer.second == 0, "claim: pays and gets nothing");
                 let large = answer.first > 2_000_000_000 || answer.second > 2_000_000_000;
                 self.add_if(large, "claim: above 2000000000");
+                self.add_if(self.leavers[place] > 0, "claim: some left and others stayed");
                 if is.markets()[place].phase == Phase::Closed {
                     let quote = is.tray()[0] - was.tray()[0];
                     let base = is.tray()[place + 1] - was.tray()[place + 1];
@@ -515,27 +537,45 @@ impl Counts {
             Call::Leave { ticket, member } => {
                 self.member(member, code);
                 self.ticket(ticket, code);
+                let both = code == 1 && ticket as usize >= TICKETS;
+                self.add_if(both, "leave: member and ticket out of range");
                 if code == 1 || code == 4 {
                     return;
                 }
                 let held = was.tickets()[ticket as usize];
-                if code == 8 {
-                    let resting = held.place == Place::Resting;
-                    self.add_if(resting, "leave: another's resting ticket");
-                    let in_round = held.place == Place::Round;
-                    self.add_if(in_round, "leave: another's ticket in a round");
+                if held.place == Place::Free {
+                    self.add_if(code == 8, "leave: a free ticket");
                     return;
                 }
                 let place = held.market as usize - 1;
                 let round = is.markets()[place];
+                let others = |phase| {
+                    let mut markets = is.markets().iter().enumerate();
+                    markets.any(|(other, round)| other != place && round.phase == phase)
+                };
+                let in_auction = round.phase == Phase::Auction;
+                let in_paying = round.phase == Phase::Paying;
+                if code == 8 {
+                    let resting = held.place == Place::Resting;
+                    self.add_if(resting, "leave: another's resting ticket");
+                    self.add_if(!resting, "leave: another's ticket in a round");
+                    self.add_if(!resting && in_auction, "leave: another's ticket in auction");
+                    self.add_if(!resting && in_paying, "leave: another's ticket in paying");
+                }
                 if code == 9 {
                     let left = self.left[ticket as usize];
                     let again = left > 0 && left == self.round_of[place];
                     self.add_if(again && round.phase == Phase::Collect, "leave: again refused");
+                    let closed = round.phase == Phase::Closed;
+                    self.add_if(closed, "leave: resting, market closed");
+                    self.add_if(in_auction, "leave: resting, market in auction");
+                    self.add_if(in_paying, "leave: resting, market in paying");
                 }
                 if code == 11 {
-                    self.add_if(round.phase == Phase::Auction, "leave: in auction refused");
-                    self.add_if(round.phase == Phase::Paying, "leave: in paying refused");
+                    self.add_if(in_auction, "leave: in auction refused");
+                    self.add_if(in_paying, "leave: in paying refused");
+                    let collects = others(Phase::Collect);
+                    self.add_if(collects, "leave: refused while another market collects");
                 }
                 if taken {
                     let side = held.side as usize;
@@ -549,8 +589,21 @@ impl Counts {
                     let rest = self.rests >> ticket & 1 == 1;
                     self.add_if(rest, "leave: a rest of an earlier round");
                     self.add_if(answer.first > 2_000_000_000, "leave: above 2000000000");
+                    self.add_if(held.market == 1, "leave: market 1");
+                    self.add_if(held.market == 2, "leave: market 2");
+                    self.add_if(held.market == 3, "leave: market 3");
+                    self.add_if(ticket == 0, "leave: ticket 0");
+                    self.add_if(ticket == 63, "leave: ticket 63");
+                    self.add_if(member == 0, "leave: member 0");
+                    self.add_if(member == 15, "leave: member 15");
+                    let second = self.leavers[place] >> ticket & 1 == 1;
+                    self.add_if(second, "leave: a second time, the same round");
+                    let never = u64::from(round.opened) + 4 > MOST;
+                    self.add_if(never, "leave: a round that can never be matched");
+                    self.add_if(others(Phase::Auction), "leave: another market in auction");
+                    self.add_if(others(Phase::Paying), "leave: another market in paying");
                     self.left[ticket as usize] = self.round_of[place];
-                    self.emptied[place] = round.marks == 0;
+                    self.leavers[place] |= 1 << ticket;
                 }
             }
         }
@@ -571,6 +624,7 @@ fn run(mut input: impl BufRead, mut output: impl Write) -> io::Result<Vec<String
     let mut total = 0u64;
     let mut accepted = 0u64;
     let mut wrong_books = 0u64;
+    let mut first_wrong = None;
     let mut line = Vec::new();
     loop {
         line.clear();
@@ -588,14 +642,15 @@ fn run(mut input: impl BufRead, mut output: impl Write) -> io::Result<Vec<String
                 let was = exchange.clone();
                 let answer = exchange.call(call);
                 counts.call(&was, &exchange, call, answer);
-                let checked = books::check_call(&was, &exchange, call, answer);
-                wrong_books += u64::from(checked.is_err());
+                if let Err(text) = books::check_call(&was, &exchange, call, answer) {
+                    wrong_books += 1;
+                    first_wrong.get_or_insert((total + 1, text));
+                }
                 (call.kind(), answer.code)
             }
-            None => (0, 20),
+            None => (0, NO_CALL),
         };
-        let code = usize::from(code);
-        if let Some(count) = table[kind].get_mut(code) {
+        if let Some(count) = table[kind].get_mut(usize::from(code)) {
             *count += 1;
         }
         if !CODES[kind].contains(&code) {
@@ -613,7 +668,7 @@ fn run(mut input: impl BufRead, mut output: impl Write) -> io::Result<Vec<String
     for (kind, row) in table.iter().enumerate() {
         write!(output, "{kind:>4}")?;
         for (code, count) in row.iter().enumerate() {
-            if *count > 0 || CODES[kind].contains(&code) {
+            if *count > 0 || CODES[kind].contains(&(code as u8)) {
                 write!(output, "{count:>8}")?;
             } else {
                 write!(output, "{:>8}", ".")?;
@@ -625,7 +680,7 @@ fn run(mut input: impl BufRead, mut output: impl Write) -> io::Result<Vec<String
     let mut missing = Vec::new();
     for (kind, codes) in CODES.iter().enumerate() {
         for &code in codes.iter() {
-            if table[kind][code] == 0 {
+            if table[kind][usize::from(code)] == 0 {
                 missing.push(format!("({kind},{code})"));
             }
         }
@@ -643,8 +698,9 @@ fn run(mut input: impl BufRead, mut output: impl Write) -> io::Result<Vec<String
     output.flush()?;
 
     let mut faults = Vec::new();
-    if wrong_books > 0 {
-        faults.push(format!("calls that left wrong books: {wrong_books}"));
+    if let Some((line, text)) = first_wrong {
+        faults
+            .push(format!("calls that left wrong books: {wrong_books}, first line {line}: {text}"));
     }
     for ((kind, code), count) in foreign {
         faults

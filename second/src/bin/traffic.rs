@@ -8,26 +8,10 @@
 
 use second::chance::Chance;
 use second::engine::{bid_quote, MILLION, MOST};
-use second::lines::{FIELDS, KINDS, LINE_MOST};
+use second::lines::{CODES, FIELDS, KINDS, LINE_MOST, NO_CALL};
 use second::{read_call, Exchange, Market, Phase, Place, Ticket};
 use std::io::{self, BufWriter, Write};
 use std::process::ExitCode;
-
-/// The codes that refuse each kind.
-const REFUSALS: [&[u8]; KINDS + 1] = [
-    &[],
-    &[1, 2, 6, 14],
-    &[1, 2, 6, 19],
-    &[1, 3, 4, 5, 6, 7, 19],
-    &[1, 4, 8, 9],
-    &[3, 10, 11, 12],
-    &[4, 8, 9, 11, 15],
-    &[3, 11, 12, 13],
-    &[1, 3, 5, 6, 11, 12, 16, 17, 18, 19],
-    &[3, 11, 12, 13],
-    &[4, 8, 9, 11],
-    &[1, 4, 8, 9, 11],
-];
 
 /// Values that stand at or next to some border.
 const BORDERS: [u64; 40] = [
@@ -54,7 +38,7 @@ const TOO_LARGE: [&str; 12] = [
 ];
 
 /// How many sorts of lines that are no call take turns.
-const SORTS: usize = 59;
+const SORTS: usize = 61;
 
 /// The fill of a line that is brought to a length.
 #[derive(Clone, Copy)]
@@ -137,8 +121,9 @@ impl<W: Write> Traffic<W> {
         let mut chance = Chance::new(seed);
         chance.draw();
         let mut refusals = Vec::new();
-        for (kind, codes) in REFUSALS.iter().enumerate() {
-            refusals.extend(codes.iter().map(|&code| (kind, code)));
+        for (kind, codes) in CODES.iter().enumerate() {
+            let refused = codes.iter().filter(|code| ![0, NO_CALL].contains(code));
+            refusals.extend(refused.map(|&code| (kind, code)));
         }
         // Where the run is long enough, every second seed ends near the last
         // block number or at it.
@@ -191,7 +176,7 @@ impl<W: Write> Traffic<W> {
     /// Prints a line, given without its byte 10, works it and gives its code.
     fn put(&mut self, line: &[u8]) -> u8 {
         if self.left == 0 {
-            return 20;
+            return NO_CALL;
         }
         self.left -= 1;
         self.season_left = self.season_left.saturating_sub(1);
@@ -202,7 +187,7 @@ impl<W: Write> Traffic<W> {
         }
         let (kind, code) = match read_call(line) {
             Some(call) => (call.kind(), self.exchange.call(call).code),
-            None => (0, 20),
+            None => (0, NO_CALL),
         };
         self.met[kind][usize::from(code)] += 1;
         code
@@ -216,7 +201,7 @@ impl<W: Write> Traffic<W> {
     fn code_of(&self, draft: Draft) -> u8 {
         match read_call(&draft.text()) {
             Some(call) => self.exchange.clone().call(call).code,
-            None => 20,
+            None => NO_CALL,
         }
     }
 
@@ -239,9 +224,13 @@ impl<W: Write> Traffic<W> {
         MOST - self.exchange.supply()[token as usize]
     }
 
-    /// A ticket for which the test holds, any of them.
+    /// A ticket for which the test holds, any of them, rather the first or the
+    /// last now and then.
     fn find_ticket(&mut self, test: impl Fn(&Exchange, &Ticket) -> bool) -> Option<u64> {
-        let first = self.chance.below(64);
+        let first = match self.chance.below(8) {
+            0 => self.chance.pick(&[0, 63]),
+            _ => self.chance.below(64),
+        };
         let x = &self.exchange;
         (0..64).map(|i| (first + i) % 64).find(|&i| test(x, &x.tickets()[i as usize]))
     }
@@ -249,6 +238,17 @@ impl<W: Write> Traffic<W> {
     /// The member of a ticket.
     fn owner(&self, ticket: u64) -> u64 {
         u64::from(self.exchange.tickets()[ticket as usize].member)
+    }
+
+    /// The market of a ticket.
+    fn market_of(&self, ticket: u64) -> u64 {
+        u64::from(self.exchange.tickets()[ticket as usize].market)
+    }
+
+    /// The first block at which a market that collects can be matched; it may
+    /// be above the most.
+    fn match_block(&self, market: u64) -> u64 {
+        self.last().max(u64::from(self.market(market).opened) + 4)
     }
 
     /// Any member but this one.
@@ -455,10 +455,7 @@ impl<W: Write> Traffic<W> {
     // Calls that are right now.
 
     fn draft(&mut self, kind: usize) -> Option<Draft> {
-        let market = {
-            let markets = self.markets.clone();
-            self.chance.pick(&markets)
-        };
+        let market = self.chance.pick(&self.markets);
         match kind {
             1 => {
                 let token = if self.chance.once_in(2) { 0 } else { market };
@@ -526,12 +523,10 @@ impl<W: Write> Traffic<W> {
                 Some(Draft::new(6, &[ticket]))
             }
             7 => {
-                let round = self.market(market);
-                if round.phase != Phase::Collect {
+                if self.market(market).phase != Phase::Collect {
                     return None;
                 }
-                let least = self.last().max(u64::from(round.opened) + 4);
-                let block = least + self.some_blocks();
+                let block = self.match_block(market) + self.some_blocks();
                 (block <= MOST).then(|| Draft::new(7, &[market, block]))
             }
             8 => {
@@ -562,12 +557,13 @@ impl<W: Write> Traffic<W> {
                 })?;
                 Some(Draft::new(10, &[ticket]))
             }
-            _ => {
+            11 => {
                 let ticket = self.find_ticket(|x, t| {
                     t.place == Place::Round && Self::phase_of(x, t) == Phase::Collect
                 })?;
                 Some(Draft::new(11, &[ticket, self.owner(ticket)]))
             }
+            _ => unreachable!("no kind {kind}"),
         }
     }
 
@@ -650,12 +646,11 @@ impl<W: Write> Traffic<W> {
         if self.chance.once_in(11) && self.set_piece() {
             return;
         }
-        let market = {
-            let markets = self.markets.clone();
-            self.chance.pick(&markets)
-        };
+        let market = self.chance.pick(&self.markets);
         let kinds: &[usize] = match self.market(market).phase {
             Phase::Closed => &[1, 1, 2, 3, 3, 3, 4, 5, 5, 5, 10],
+            // It can never be matched, but it can be left.
+            Phase::Collect if self.match_block(market) > MOST => &[1, 3, 3, 6, 6, 6, 11, 11],
             Phase::Collect => &[1, 2, 3, 3, 3, 3, 4, 6, 6, 6, 6, 6, 6, 6, 6, 7, 11],
             Phase::Auction => &[1, 3, 4, 6, 8, 8, 8, 8, 8, 8, 8, 9, 9],
             Phase::Paying => &[1, 2, 3, 8, 10, 10, 10, 10, 10, 10, 10],
@@ -819,7 +814,7 @@ impl<W: Write> Traffic<W> {
                 true
             }
             // Members who leave a round.
-            7 => self.leaving(),
+            7 => self.leaving().is_some(),
             // Orders at and next to the round's bounds, all entered.
             _ => {
                 let Some(market) = self.find_market(Phase::Collect) else {
@@ -846,25 +841,39 @@ impl<W: Write> Traffic<W> {
         }
     }
 
-    /// A few lines around members who leave a round that collects. False if
+    /// A few lines around members who leave a round that collects. Nothing if
     /// there is no ticket for it now.
-    fn leaving(&mut self) -> bool {
-        match self.chance.below(4) {
+    fn leaving(&mut self) -> Option<()> {
+        match self.chance.below(5) {
+            // Back again, and now and then away for good.
             0 | 1 => {
-                let Some(draft) = self.draft(11) else {
-                    return false;
-                };
+                let draft = self.draft(11)?;
                 self.leave_and_enter(draft.f[0]);
+                if self.chance.once_in(2) {
+                    self.say(draft);
+                }
             }
-            // Cancelled: not in the round, but after leaving it.
+            // Cancelled: not in the round, but after leaving it; then the
+            // ticket is free.
             2 => {
-                let Some(draft) = self.draft(11) else {
-                    return false;
-                };
+                let draft = self.draft(11)?;
                 let cancel = Draft::new(4, &draft.f[..2]);
-                self.say(cancel);
+                for line in [cancel, draft, cancel, draft] {
+                    self.say(line);
+                }
+            }
+            // The round goes on without the ticket.
+            3 => {
+                let draft = self.draft(11)?;
+                let ticket = draft.f[0];
+                let market = self.market_of(ticket);
+                let block = self.match_block(market);
                 self.say(draft);
-                self.say(cancel);
+                if block <= MOST {
+                    self.say(Draft::new(7, &[market, block]));
+                    self.say(Draft::new(6, &[ticket]));
+                    self.say(draft);
+                }
             }
             // All tickets of a small round, which then ends without them; the
             // next one takes those whose limits suit it.
@@ -873,28 +882,26 @@ impl<W: Write> Traffic<W> {
                     t.place == Place::Round
                         && Self::phase_of(x, t) == Phase::Collect
                         && x.markets()[t.market as usize - 1].marks.count_ones() <= 3
-                });
-                let Some(ticket) = few else { return false };
-                let market = u64::from(self.exchange.tickets()[ticket as usize].market);
-                let round = self.market(market);
-                let block = self.last().max(u64::from(round.opened) + 4);
-                let marked: Vec<u64> = (0..64).filter(|i| round.marks >> i & 1 == 1).collect();
+                })?;
+                let market = self.market_of(few);
+                let block = self.match_block(market);
+                let marks = self.market(market).marks;
+                let marked: Vec<u64> = (0..64).filter(|i| marks >> i & 1 == 1).collect();
                 for &ticket in &marked {
                     self.say(Draft::new(11, &[ticket, self.owner(ticket)]));
                 }
-                if block > MOST {
-                    return true;
-                }
-                self.say(Draft::new(7, &[market, block]));
-                self.say(Draft::new(9, &[market, block]));
-                let next = [market, block, self.reference(), self.slack(), self.length()];
-                self.say(Draft::new(5, &next));
-                for ticket in marked {
-                    self.say(Draft::new(6, &[ticket]));
+                if block <= MOST {
+                    self.say(Draft::new(7, &[market, block]));
+                    self.say(Draft::new(9, &[market, block]));
+                    let next = [market, block, self.reference(), self.slack(), self.length()];
+                    self.say(Draft::new(5, &next));
+                    for ticket in marked {
+                        self.say(Draft::new(6, &[ticket]));
+                    }
                 }
             }
         }
-        true
+        Some(())
     }
 
     /// Another member cannot take a ticket out of its round; its owner can,
@@ -978,7 +985,8 @@ impl<W: Write> Traffic<W> {
                 let bound = if side == 1 { MOST } else { 0 };
                 Draft::new(8, &[market, member, block, side, amount, bound])
             }
-            _ => Draft::new(kind, &[ticket]),
+            6 | 10 => Draft::new(kind, &[ticket]),
+            _ => unreachable!("no kind {kind}"),
         }
     }
 
@@ -1085,7 +1093,8 @@ impl<W: Write> Traffic<W> {
             6 | 10 => self.spoil_ticket(&mut draft, code)?,
             7 => self.spoil_match(&mut draft, code)?,
             8 => self.spoil_bid(&mut draft, code)?,
-            _ => self.spoil_settle(&mut draft, code)?,
+            9 => self.spoil_settle(&mut draft, code)?,
+            _ => unreachable!("no kind {kind}"),
         }
         Some(draft)
     }
@@ -1198,12 +1207,13 @@ impl<W: Write> Traffic<W> {
                 f[0] = self.find_ticket(|_, t| t.place == place)?;
                 f[1] = self.owner(f[0]);
             }
-            _ => {
+            11 => {
                 let phase = self.chance.pick(&[Phase::Auction, Phase::Paying]);
                 f[0] = self
                     .find_ticket(|x, t| t.place == Place::Round && Self::phase_of(x, t) == phase)?;
                 f[1] = self.owner(f[0]);
             }
+            _ => unreachable!("code {code} refuses neither"),
         }
         if code == 1 && self.also() {
             f[0] = self.bad_ticket();
@@ -1438,7 +1448,10 @@ impl<W: Write> Traffic<W> {
     fn faulty(&mut self) -> Vec<u8> {
         let sort = self.sort;
         self.sort = (sort + 1) % SORTS;
-        let kind = self.chance.between(1, KINDS as u64) as usize;
+        let kind = match sort {
+            59 | 60 => 11,
+            _ => self.chance.between(1, KINDS as u64) as usize,
+        };
         let draft = self.start(kind);
         let mut numbers = draft.numbers();
         let mut text = draft.text();
@@ -1492,13 +1505,14 @@ impl<W: Write> Traffic<W> {
             48 => text[inside] = c.pick(b"/:+-"),
             49 => text.push(c.pick(b"\x09\x0b\x8a")),
             50 => text[inside] |= 0x80,
-            // Wrong numbers of fields.
-            51 => numbers.truncate(last),
+            // Wrong numbers of fields, of kind 11 too.
+            51 | 59 => numbers.truncate(last),
             52 => numbers.truncate(1),
-            53 => numbers.push("0".to_string()),
+            53 | 60 => numbers.push("0".to_string()),
             54 => numbers.extend(vec!["1".to_string(); 6]),
             // Unknown kinds.
-            _ => numbers[0] = ["0", "12", "13", "4294967295"][sort - 55].to_string(),
+            55..=58 => numbers[0] = ["0", "12", "13", "4294967295"][sort - 55].to_string(),
+            _ => unreachable!("no sort {sort}"),
         }
         // The fault is in the text or in the numbers.
         if text != draft.text() {

@@ -39,8 +39,8 @@ returns-2 c =
     c .refused4 .ensures
     ∙ sym (leave-entered-other (a .t) (a .market) (a .ticket) (a .member) _ (c .before .before .before .before .state2 .given .1) (c .before .if2 .taken))
 
-leave-round-requires : tie.Need-leave-round-requires
-leave-round-requires c κs = search needs
+leave-entered-requires : tie.Need-leave-entered-requires
+leave-entered-requires c κs = search needs
 
 returns-3 : tie.Need-returns-3
 returns-3 c =
@@ -56,7 +56,7 @@ returns-4 c =
 returns-5 : tie.Need-returns-5
 returns-5 c =
     let a = c .before .before .before .before .before .before .args in
-    c .leave-round .ensures ∙ ap (leaveOn (a .t) (a .market) (a .ticket)) (c .before .if2 .left)
+    c .leave-entered .ensures ∙ ap (leaveOn (a .t) (a .market) (a .ticket)) (c .before .if2 .left)
 
 pub leave-spec : {M : Type 1} → statement M
 leave-spec =
@@ -71,7 +71,7 @@ leave-spec =
     enum-known-state-2
     refused-requires-4
     returns-2
-    leave-round-requires
+    leave-entered-requires
     returns-3
     returns-4
     returns-5)

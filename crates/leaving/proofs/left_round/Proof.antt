@@ -1,7 +1,7 @@
 -- `leaving::left_round` meets its contract.
 use mathlib.Core.Path.{ap₂, _∙_}
 use borrow.Author.Needs.{needs}
-use Rattle.leaving.proofs.Laws.{boughtOut, soldOut, buy-left, sell-left}
+use Rattle.leaving.proofs.Laws.{boughtFrom, soldFrom, buy-left, sell-left}
 use Rattle.leaving.proofs.left_round.Statement.{statement}
 use Rattle.leaving.proofs.left_round.Tie as tie
 
@@ -30,14 +30,14 @@ returns : tie.Need-returns
 returns c =
     let a = c .before .before .before .before .before .args in
     rw (c .minus .ensures)
-    (ap₂ (boughtOut (a .r) (a .offer .0)) (c .before .before .before .before .remove .ensures) (c .before .minus-total .ensures)
+    (ap₂ (boughtFrom (a .r) (a .offer .0)) (c .before .before .before .before .remove .ensures) (c .before .minus-total .ensures)
     ∙ buy-left (a .r) (a .ticket) (a .side) (a .offer .0) (c .before .before .enum-told .given .1))
 
 returns-2 : tie.Need-returns-2
 returns-2 c =
     let a = c .before .before .before .before .before .args in
     rw (c .minus2 .ensures)
-    (ap₂ (soldOut (a .r) (a .offer .0)) (c .before .before .before .before .remove .ensures) (c .before .minus-total2 .ensures)
+    (ap₂ (soldFrom (a .r) (a .offer .0)) (c .before .before .before .before .remove .ensures) (c .before .minus-total2 .ensures)
     ∙ sell-left (a .r) (a .ticket) (a .side) (a .offer .0) (c .before .before .enum-told2 .given .1))
 
 pub left-round-spec : {M : Type 1} → statement M

@@ -1,10 +1,10 @@
--- `leaving::leave_round` meets its contract.
+-- `leaving::leave_entered` meets its contract.
 use mathlib.Core.Path.{sym, ap, _∙_}
 use borrow.Author.Needs.{needs}
 use Rattle.model.specs.State.{isCollect}
 use Rattle.leaving.proofs.Laws.{leave-wrong-phase, leave-done, leftWith}
-use Rattle.leaving.proofs.leave_round.Statement.{statement}
-use Rattle.leaving.proofs.leave_round.Tie as tie
+use Rattle.leaving.proofs.leave_entered.Statement.{statement}
+use Rattle.leaving.proofs.leave_entered.Tie as tie
 
 enum-told : tie.Need-enum-told
 enum-told c = search needs
@@ -58,8 +58,8 @@ returns-4 c =
     let a = s .args in
     c .refused3 .ensures ∙ sym (leave-wrong-phase (a .t) (a .market) (a .ticket) (a .o) (s .pre .1) (ap isCollect (c .before .enum-told3 .given .1)))
 
-pub leave-round-spec : {M : Type 1} → statement M
-leave-round-spec =
+pub leave-entered-spec : {M : Type 1} → statement M
+leave-entered-spec =
     tie.close
     (tie.spec
     enum-told
