@@ -1,5 +1,6 @@
 -- `leaving::left_round` meets its contract.
 use mathlib.Core.Path.{ap₂, _∙_}
+use native.Mathlib.Omega.{arith}
 use borrow.Author.Needs.{needs}
 use Rattle.leaving.proofs.Laws.{boughtFrom, soldFrom, buy-left, sell-left}
 use Rattle.leaving.proofs.left_round.Statement.{statement}
@@ -15,7 +16,9 @@ minus-total-requires : tie.Need-minus-total-requires
 minus-total-requires c κs = rw (c .enum-told .given .1) at (c .before .before .before .pre .1)
 
 minus-requires : tie.Need-minus-requires
-minus-requires c κs = rw (c .before .enum-told .given .1) at (c .before .before .before .before .pre .2)
+minus-requires c κs =
+    let held = rw (c .before .enum-told .given .1) at (c .before .before .before .before .pre .2) in
+    omega (arith, held)
 
 enum-told-2 : tie.Need-enum-told-2
 enum-told-2 c = search needs
