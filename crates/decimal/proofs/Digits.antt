@@ -3,7 +3,7 @@ use mathlib.Core.Path.{_≡_, refl, sym, ap, _∙_}
 use Prim.Native.Nat.{ℕ, zero, suc, _+_, _/_, _%_, _≤_, _<_, _^_}
 use native.Mathlib.Omega.{arith}
 use lib.Dec.{lit<}
-use native.Mathlib.Nat.{div-lt-iff-lt-mul, le-div-iff-mul-le, mod-eq-of-lt, one-le-pow, pow-suc, not-suc-le-zero}
+use native.Mathlib.Nat.{div-one, div-lt-iff-lt-mul, le-div-iff-mul-le, div-div-eq-div-mul, mod-eq-of-lt, one-le-pow, pow-suc, pow-succ', not-suc-le-zero}
 use mathlib.Core.List.{List, [], _∷_, _++_}
 use lib.ListN.{length, length-append}
 use Rattle.units.specs.Decimal.{leading, digits}
@@ -46,6 +46,9 @@ lead-length m h = ap length (lead-step m h) ∙ length-append (lead (m / 10)) _
 digits-length : (n : ℕ) → length (digits n) ≡ length (lead (n / 10)) + 1
 digits-length n = ap length (digits-step n) ∙ length-append (lead (n / 10)) _
 
+pub digits-some : (n : ℕ) → 0 < length (digits n)
+digits-some n = omega (arith, digits-length n)
+
 pub lead-none : (m : ℕ) → m ≤ 0 → lead m ≡ []
 lead-none zero h = lead-zero
 lead-none (suc m) h = absurd (not-suc-le-zero h)
@@ -81,6 +84,18 @@ digits-least (suc k) n h =
 -- n from 10 to the k on and below ten times that has k + 1 digits
 pub digits-count : (k n : ℕ) → 10 ^ k ≤ n → n < 10 ^ suc k → length (digits n) ≡ suc k
 digits-count k n low high = omega (arith, digits-least k n low, digits-most k n high)
+
+-- n from 10 to the k on has k digits more than what is left of it without its last k
+pub digits-before : (k n : ℕ) → 10 ^ k ≤ n → length (digits n) ≡ length (digits (n / 10 ^ k)) + k
+digits-before zero n h = omega (arith, ap (λ (m : ℕ). length (digits m)) (div-one n))
+digits-before (suc k) n h =
+    let more : 10 ^ k ≤ n / 10 = le-div-iff-mul-le {k = 10} (lit< tt) .1 (rw pow-suc at h) in
+    let same : n / 10 / 10 ^ k ≡ n / 10 ^ suc k = div-div-eq-div-mul n 10 (10 ^ k) ∙ ap (λ (d : ℕ). n / d) (sym (pow-succ' 10 k)) in
+    omega
+    (arith,
+    digits-longer n (omega (arith, more, one-le-pow k 10 (lit< tt))),
+    digits-before k (n / 10) more,
+    ap (λ (m : ℕ). length (digits m)) same)
 
 pub digits-bound : (n : ℕ) → n < 2 ^ 32 → length (digits n) ≤ 10
 digits-bound n h = digits-most 9 n (omega arith)

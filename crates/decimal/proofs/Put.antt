@@ -35,6 +35,14 @@ module _ (out text : List ℕ) where
   unfolding putCount
   count-short h = rw (lt-leb _ _ h)
 
+  -- what a writer of all the text, or of nothing, answers and leaves
+  pub put-whole : {p : ℕ} {y : List ℕ} → p ≡ length text → y ≡ putAt out 0 text → length text ≤ length out
+      → (p ≡ putCount out text) × (y ≡ putInto out text)
+  put-whole e w h = (e ∙ sym (count-fits h), w ∙ sym (put-at h))
+
+  pub put-nothing : length out < length text → (0 ≡ putCount out text) × (out ≡ putInto out text)
+  put-nothing h = (sym (count-short h), sym (put-short h))
+
   pub from-fits : (at : ℕ) → at + length text ≤ length out → putFrom out at text ≡ putAt out at text
   unfolding putFrom
   from-fits at h = rw (le-leb _ _ h)
@@ -149,4 +157,4 @@ run-more xs at t y u z p q r h e l =
 
 -- the whole run that fits
 pub run-all : (xs t y : List ℕ) (p : ℕ) → Run xs 0 t y p → length t ≤ length xs → (p ≡ putCount xs t) × (y ≡ putInto xs t)
-run-all xs t y p r h = (omega (arith, r .place, count-fits xs t h), r .text ∙ sym (put-at xs t h))
+run-all xs t y p r h = put-whole xs t (omega (arith, r .place)) (r .text) h

@@ -1,10 +1,12 @@
-// Decimal numbers written into a lent buffer.
+// Decimal numbers written into a lent buffer. No array is kept: each digit goes straight to its final place (tests/arrays).
 ghost use mathlib.Core.Path.{_≡_};
 ghost use mathlib.Core.List.{[], _∷_, _++_};
 ghost use Prim.Native.Nat.{_+_, _≤_};
 ghost use lib.ListN.{length};
 ghost use Rattle.units.specs.Decimal.{digits};
-ghost use Rattle.decimal.specs.Buffer.{putAt};
+ghost use Rattle.decimal.specs.Buffer.{putAt, putInto, putCount};
+
+pub mod wide;
 
 // How many digits n has, at most ten.
 pub fn digit_count(n: u32) -> usize
@@ -41,7 +43,7 @@ pub fn digit_count(n: u32) -> usize
     10
 }
 
-// Writes n at the start of out and answers how many bytes that took. It asks for that room. Each digit goes straight to its final place.
+// Writes n at the start of out and answers how many bytes that took. It asks for that room.
 fn write_number(out: &mut [u8], n: u32) -> usize
     requires { ⌜ length (digits n) ≤ length (now out) ⌝ }
     ensures { λ r. ⌜ r ≡ length (digits n) ⌝ }
@@ -58,6 +60,18 @@ fn write_number(out: &mut [u8], n: u32) -> usize
     }
     out[0] = (48 + m) as u8;
     k
+}
+
+// The number writer: writes n at the start of out where out has at least as many bytes as n has digits, and answers how many bytes that
+// took; where out is shorter, 0, and out is unchanged.
+pub fn put_number(out: &mut [u8], n: u32) -> usize
+    ensures { λ r. ⌜ r ≡ putCount (now (out .entry)) (digits n) ⌝ }
+    ensures { λ r. ⌜ now (out .exit) ≡ putInto (now (out .entry)) (digits n) ⌝ }
+{
+    if out.len() < digit_count(n) {
+        return 0;
+    }
+    write_number(out, n)
 }
 
 // Writes n and then the byte end from index at on, and answers the index after them. For the crates above, which know that there is
