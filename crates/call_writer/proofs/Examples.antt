@@ -6,6 +6,7 @@ use lib.ListN.{length}
 use Rattle.units.specs.Decimal.{digits}
 use Rattle.fields.specs.Grammar.{numberOf, lineNumbers}
 use Rattle.decimal.specs.Buffer.{putAt, putFrom}
+use Rattle.decimal.specs.Examples.{hashes}
 use Rattle.model.specs.declared.answer.Refusal.the-variants.{BufferTooShort}
 use Rattle.model.specs.declared.call.Call.the-variants.{Enter}
 use Rattle.model.specs.Answers.{refusalCode}
@@ -17,7 +18,7 @@ use Rattle.call_writer.specs.declared.CallWritten.{CallWritten}
 use Rattle.call_writer.specs.declared.CallWritten.the-variants.{Written, TooShort}
 use Rattle.call_writer.specs.Writing.{writtenOf, writtenCode, writtenLength, shortestCall, longestCall, lineOfReading}
 use Rattle.call_writer.specs.RoundTrips.{LineOf, ReadAgain}
-use Rattle.call_writer.specs.Examples.{hashes, longestBid, CallPut, callsPut, putAtOne, LineAgain, linesAgain}
+use Rattle.call_writer.specs.Examples.{longestBid, CallPut, callsPut, putAtOne, LineAgain, linesAgain}
 
 -- what a computed line unfolds
 unfoldable text-computes : Unit {0}

@@ -2,9 +2,9 @@
 use mathlib.Core.List.{[], _∷_}
 use native.Mathlib.Omega.{arith}
 use Rattle.units.specs.Decimal.{digits}
+use Rattle.decimal.specs.Examples.{hashes}
 use Rattle.model.specs.declared.call.Call.the-variants.{Enter}
 use Rattle.lines.specs.CallText.{lineOfNumbers, lineOfCall}
-use Rattle.call_writer.specs.Examples.{hashes}
 use Rattle.call_writer.specs.LawExamples.{enterLine, LawsUsed}
 
 pub laws-used : LawsUsed

@@ -1,7 +1,8 @@
 -- Calls written at places of a buffer, and lines read and written again, worked by hand.
 use Prim.Native.Nat.{ℕ, _+_}
 use mathlib.Core.List.{List, [], _∷_, _++_}
-use lib.ListN.{length, replicate}
+use lib.ListN.{length}
+use Rattle.decimal.specs.Examples.{hashes}
 use Rattle.model.specs.declared.call.Call.{Call}
 use Rattle.model.specs.declared.call.Call.the-variants.{Enter, Bid, Claim}
 use Rattle.lines.specs.declared.call.Reading.{Reading}
@@ -9,10 +10,6 @@ use Rattle.lines.specs.declared.call.Reading.the-variants.{Read, NoCall}
 use Rattle.lines.specs.LineExamples.{CallLine}
 
 -- ---- calls written
-
--- a buffer that nothing was written into: so many bytes 35 (#)
-abbrev pub hashes : ℕ → List ℕ
-hashes n = replicate n 35
 
 -- a buffer of so many bytes, a place and a call; the code, the length and the buffer after
 pub record CallPut : Type 0 where

@@ -91,11 +91,12 @@ digits-before zero n h = omega (arith, ap (λ (m : ℕ). length (digits m)) (div
 digits-before (suc k) n h =
     let more : 10 ^ k ≤ n / 10 = le-div-iff-mul-le {k = 10} (lit< tt) .1 (rw pow-suc at h) in
     let same : n / 10 / 10 ^ k ≡ n / 10 ^ suc k = div-div-eq-div-mul n 10 (10 ^ k) ∙ ap (λ (d : ℕ). n / d) (sym (pow-succ' 10 k)) in
-    omega
-    (arith,
-    digits-longer n (omega (arith, more, one-le-pow k 10 (lit< tt))),
-    digits-before k (n / 10) more,
-    ap (λ (m : ℕ). length (digits m)) same)
+    omega (
+      arith,
+      digits-longer n (omega (arith, more, one-le-pow k 10 (lit< tt))),
+      digits-before k (n / 10) more,
+      ap (λ (m : ℕ). length (digits m)) same,
+    )
 
 pub digits-bound : (n : ℕ) → n < 2 ^ 32 → length (digits n) ≤ 10
 digits-bound n h = digits-most 9 n (omega arith)

@@ -1,2 +1,4 @@
 pub mod Buffer
+pub mod Numbers
 pub mod Examples
+pub mod LawExamples

@@ -53,9 +53,10 @@ same-length : tie.Need-same-length Inv-loop μ-loop
 same-length c = c .before .before .write-number .kept .0 ∙ c .before .before .before .before .before .loop .inv .0 .size
 
 returns : tie.Need-returns Inv-loop μ-loop
-returns c =
-    (c .before .before .before .before .before .before .digit-count .ensures .0,
-    c .before .before .write-number .ensures .1 ∙ storing-rest (c .before .before .before .before .before .loop .inv .0))
+returns c = (
+  c .before .before .before .before .before .before .digit-count .ensures .0,
+  c .before .before .write-number .ensures .1 ∙ storing-rest (c .before .before .before .before .before .loop .inv .0),
+)
 
 pub write-number-spec : {M : Type 1} → statement M
 write-number-spec =
