@@ -7,7 +7,7 @@ use mathlib.Core.List.{List, [], _∷_, _++_, append-assoc, append-nil}
 use lib.ListN.{length, take, drop, set, length-append, length-drop, drop-of-length-le, take-append-drop}
 use lib.Seq.{take-all, drop-cons, set-at, length-take-le, drop-drop, take-at, drop-append-add, sets, sets-eq}
 use lib.Dec.{leb}
-use borrow.Author.Tests.{le-leb, lt-leb}
+use borrow.Author.Tests.{leb-true, le-leb, lt-leb}
 use Rattle.units.proofs.Cases.{by-test}
 use Rattle.decimal.specs.Buffer.{putAt, putInto, putCount, putFrom}
 
@@ -34,6 +34,10 @@ module _ (out text : List ℕ) where
   pub count-short : length out < length text → putCount out text ≡ 0
   unfolding putCount
   count-short h = rw (lt-leb _ _ h)
+
+  pub count-within : putCount out text ≤ length out
+  unfolding putCount
+  count-within = by-test (leb (length text) (length out)) (λ t. rw t (leb-true _ _ t)) (λ t. rw t (omega arith))
 
   -- what a writer of all the text, or of nothing, answers and leaves
   pub put-whole : {p : ℕ} {y : List ℕ} → p ≡ length text → y ≡ putAt out 0 text → length text ≤ length out
