@@ -1,15 +1,15 @@
 -- How long a call's line is, by the table of kinds: its number, and for each field a comma and one to ten digits.
-use mathlib.Core.Path.{_≡_, refl, ap, subst, _∙_}
+use mathlib.Core.Path.{_≡_, refl, ap, subst}
 use mathlib.Core.Bool.{Bool, true, false, _&&_}
 use mathlib.Core.List.{List, [], _∷_, map}
-use Prim.Native.Nat.{ℕ, zero, suc, _+_, _*_, _/_, _≤_, _<_}
+use Prim.Native.Nat.{ℕ, zero, suc, _+_, _*_, _≤_}
 use native.Mathlib.Omega.{arith}
 use lib.Dec.{leb, eqb}
 use lib.ListN.{length, length-append}
 use borrow.Author.Tests.{leb-true, eqb-true}
 use Rattle.units.specs.Decimal.{digits}
 use Rattle.units.proofs.Cases.{false-not-true, by-test}
-use Rattle.decimal.proofs.Digits.{lead, digits-step}
+use Rattle.decimal.proofs.Digits.{digits-some}
 use Rattle.model.specs.declared.call.Call.{Call}
 use Rattle.model.specs.Kinds.{Taking, Kind, fromFields, kinds}
 use Rattle.lines.specs.declared.call.Reading.the-variants.{Read}
@@ -59,9 +59,6 @@ read-fits (k ∷ ks) t number fields c e =
     (λ is. read-fits ks (all .1) number fields c (rw is at e))
 
 -- ---- a call
-
-digits-some : (n : ℕ) → 0 < length (digits n)
-digits-some n = omega (arith, ap length (digits-step n) ∙ length-append (lead (n / 10)) _)
 
 -- a digit, and a comma and a digit for each number after the first
 numbers-least : (n : ℕ) (ns : List ℕ) → 1 + 2 * length ns ≤ length (joinParts (map digits (n ∷ ns)))

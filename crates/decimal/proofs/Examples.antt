@@ -5,14 +5,14 @@ use Prim.Native.Nat.{ℕ}
 use lib.ListN.{length}
 use Rattle.units.specs.Decimal.{digits}
 use Rattle.decimal.specs.Buffer.{putAt, putInto, putCount, putFrom}
-use Rattle.decimal.specs.Examples.{hashes, numbersWritten, numbersPut, textsPut, textsFitted, textsFrom}
+use Rattle.decimal.specs.Examples.{hashes, numbersWritten, numbersFitted, textsPut, textsFitted, textsFrom}
 
 pub numbers-written : map (λ (e : ℕ × List ℕ × ℕ). (e .0, digits (e .0), length (digits (e .0)))) numbersWritten ≡ numbersWritten
 unfolding numbersWritten digits
 numbers-written = refl
 
-pub numbers-fitted : map (λ (e : ℕ × ℕ × ℕ × List ℕ). (e .0, e .1, putCount (hashes (e .1)) (digits (e .0)), putInto (hashes (e .1)) (digits (e .0)))) numbersPut ≡ numbersPut
-unfolding numbersPut digits putAt putInto putCount
+pub numbers-fitted : map (λ (e : ℕ × ℕ × ℕ × List ℕ). (e .0, e .1, putCount (hashes (e .1)) (digits (e .0)), putInto (hashes (e .1)) (digits (e .0)))) numbersFitted ≡ numbersFitted
+unfolding numbersFitted digits putAt putInto putCount
 numbers-fitted = refl
 
 pub texts-put : map (λ (e : List ℕ × ℕ × List ℕ × List ℕ). (e .0, e .1, e .2, putAt (e .0) (e .1) (e .2))) textsPut ≡ textsPut

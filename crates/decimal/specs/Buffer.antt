@@ -1,5 +1,6 @@
 -- Text put into a lent buffer.
-use Prim.Native.Nat.{ℕ, _+_}
+use mathlib.Core.Path.{_≡_}
+use Prim.Native.Nat.{ℕ, _+_, _≤_, _<_}
 use mathlib.Core.Bool.{cond}
 use mathlib.Core.List.{List, _++_}
 use lib.ListN.{length, take, drop}
@@ -16,6 +17,15 @@ putInto out text = cond (leb (length text) (length out)) (putAt out 0 text) out
 -- how many bytes that takes, 0 where out is too short
 unfoldable pub putCount : List ℕ → List ℕ → ℕ
 putCount out text = cond (leb (length text) (length out)) (length text) 0
+
+-- the same by its bytes: text, to be put into a part with the bytes before; so many of them are used, and the part then has the bytes after
+pub record TextPut (text before : List ℕ) (used : ℕ) (after : List ℕ) : Type 0 where
+  -- as many bytes as the text has are enough
+  pub enough : length text ≤ length before → (used ≡ length text) × (take used after ≡ text)
+  -- where there are fewer, none is used
+  pub short : length before < length text → used ≡ 0
+  -- and no byte after those that are used changes
+  pub kept : drop used after ≡ drop used before
 
 -- text from a place on, where what follows the place is long enough: "Bytes outside the line stay"; else, as 21 has it, "no byte changed"
 unfoldable pub putFrom : List ℕ → ℕ → List ℕ → List ℕ

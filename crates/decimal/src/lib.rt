@@ -5,6 +5,7 @@ ghost use Prim.Native.Nat.{_+_, _≤_};
 ghost use lib.ListN.{length};
 ghost use Rattle.units.specs.Decimal.{digits};
 ghost use Rattle.decimal.specs.Buffer.{putAt, putInto, putCount};
+ghost use Rattle.decimal.specs.Numbers.{NumberBounded};
 
 pub mod wide;
 
@@ -62,11 +63,12 @@ fn write_number(out: &mut [u8], n: u32) -> usize
     k
 }
 
-// The number writer: writes n at the start of out where out has at least as many bytes as n has digits, and answers how many bytes that
-// took; where out is shorter, 0, and out is unchanged.
+// The number writer, of 32 bits: writes n at the start of out and answers how many bytes that took. As many bytes as n has digits are
+// enough, and no byte after them changes; where out is shorter, it answers 0 and changes no byte.
 pub fn put_number(out: &mut [u8], n: u32) -> usize
     ensures { λ r. ⌜ r ≡ putCount (now (out .entry)) (digits n) ⌝ }
     ensures { λ r. ⌜ now (out .exit) ≡ putInto (now (out .entry)) (digits n) ⌝ }
+    ensures { λ r. ⌜ NumberBounded n 10 ⌝ }
 {
     if out.len() < digit_count(n) {
         return 0;

@@ -1,15 +1,16 @@
-// The same for numbers of 64 bits: the digits that lead are written as those of a 32-bit number.
+// Numbers of 64 bits, up to twenty digits, written into a lent buffer: the digits that lead are written as those of a 32-bit number.
 ghost use mathlib.Core.Path.{_≡_};
 ghost use Prim.Native.Nat.{_≤_};
 ghost use lib.ListN.{length};
 ghost use Rattle.units.specs.Decimal.{digits};
 ghost use Rattle.decimal.specs.Buffer.{putAt, putInto, putCount};
+ghost use Rattle.decimal.specs.Numbers.{NumberBounded};
 
 // The largest number of 32 bits.
 const LARGEST: u64 = 4_294_967_295;
 
-// Ten to the ten: a number of 64 bits has at most ten digits before its last ten.
-const LAST_TEN: u64 = 10_000_000_000;
+// A number of 64 bits has at most ten digits before its last ten.
+const TEN_TO_TEN: u64 = 10_000_000_000;
 
 // How many digits n has, at most twenty.
 pub fn digit_count(n: u64) -> usize
@@ -19,10 +20,10 @@ pub fn digit_count(n: u64) -> usize
     if n <= LARGEST {
         return crate::digit_count(n as u32);
     }
-    if n < LAST_TEN {
+    if n < TEN_TO_TEN {
         return 10;
     }
-    crate::digit_count((n / LAST_TEN) as u32) + 10
+    crate::digit_count((n / TEN_TO_TEN) as u32) + 10
 }
 
 // Writes n at the start of out and answers how many bytes that took. It asks for that room.
@@ -44,10 +45,11 @@ fn write_number(out: &mut [u8], n: u64) -> usize
     k
 }
 
-// The number writer for 64 bits: as `put_number` of 32.
+// The number writer, of 64 bits: as crate::put_number of 32.
 pub fn put_number(out: &mut [u8], n: u64) -> usize
     ensures { λ r. ⌜ r ≡ putCount (now (out .entry)) (digits n) ⌝ }
     ensures { λ r. ⌜ now (out .exit) ≡ putInto (now (out .entry)) (digits n) ⌝ }
+    ensures { λ r. ⌜ NumberBounded n 20 ⌝ }
 {
     if out.len() < digit_count(n) {
         return 0;
