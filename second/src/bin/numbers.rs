@@ -1,4 +1,4 @@
-//! Prints what a host's two writers of numbers leave in their parts, one for
+//! Prints what the two writers of numbers leave in their parts, one for
 //! 64 bits and one for 32: `numbers`. The numbers are a few large ones, each
 //! with what is left of it as its last digits are taken off, and 0. For each
 //! number come parts of 0 to 21 bytes with the writer for 64 bits and then, up

@@ -7,7 +7,7 @@ use Rattle.numbers.proofs.try_tenths.Statement.{statement}
 use Rattle.numbers.proofs.try_tenths.Tie as tie
 
 abbrev Inv-loop : tie.InvT-loop
-Inv-loop line₀ n m₀ line m = (length line ≡ length line₀) × (40 ≤ length line₀)
+Inv-loop line₀ n m₀ line m = (length line ≡ length line₀) × (33 ≤ length line₀)
 
 abbrev μ-loop : tie.MeasureT-loop
 μ-loop line₀ n m₀ line m = m

@@ -17,7 +17,7 @@ digit-count-requires : tie.Need-digit-count-requires Inv-loop μ-loop
 digit-count-requires c κs = search needs
 
 loop-holds : tie.Need-loop-holds Inv-loop μ-loop
-loop-holds c = (storing-all _ _ _ (c .digit-count .ensures .0) (omega (arith, c .before .before .pre)), omega arith)
+loop-holds c = (storing-all _ _ _ (omega (arith, c .digit-count .ensures .0)) (omega (arith, c .before .before .pre)), omega arith)
 
 sub-i : tie.Need-sub-i Inv-loop μ-loop
 sub-i c = omega (arith, storing-place (c .before .loop .inv .0))
