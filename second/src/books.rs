@@ -1,7 +1,8 @@
 //! What must hold of the exchange after every call. What is wrong is told by a
 //! text.
 
-use crate::engine::{Answer, Call, Exchange, Half, Market, Phase, Place, Ticket, MARKETS, MEMBERS};
+use crate::engine::{Answer, Call, Exchange, Half, Market, Phase, Place, Ticket};
+use crate::engine::{MARKETS, MEMBERS, MILLION};
 
 /// All that was deposited and not withdrawn is somewhere, free tickets and
 /// closed markets are zero, and the rounds agree with their tickets: marks in
@@ -54,7 +55,8 @@ pub fn check(x: &Exchange) -> Result<(), &'static str> {
 
 /// The books are right after a call. A refused one answers two zeros and
 /// changes nothing. Only accepted deposits and withdrawals move the supply, by
-/// their amounts; enter and leave are as `check_move` says.
+/// their amounts; enter and leave are as `check_move` says, and match as
+/// `check_match` says.
 pub fn check_call(
     was: &Exchange,
     is: &Exchange,
@@ -75,7 +77,8 @@ pub fn check_call(
         let right = was + u64::from(came) == is + u64::from(went);
         wrong_if(!right, "the supply did not move by what came and went")?;
     }
-    check_move(was, is, call, answer)
+    check_move(was, is, call, answer)?;
+    check_match(was, is, call, answer)
 }
 
 /// An accepted enter or leave moves its ticket, with its order, between rest
@@ -115,6 +118,41 @@ fn check_move(
     let mut back = is.clone();
     let same = back.call(undo) == undone && back == *was;
     wrong_if(!same, "enter and leave do not undo each other")
+}
+
+/// An accepted match trades what both sides offer at the reference, for a
+/// whole quote next to its worth that keeps both bounds: above it where that
+/// keeps hi. It trades nothing only where no whole quote keeps both. The
+/// auction starts with what it answers. Other calls pass.
+fn check_match(
+    was: &Exchange,
+    is: &Exchange,
+    call: Call,
+    answer: Answer,
+) -> Result<(), &'static str> {
+    let Call::Match { market, block } = call else { return Ok(()) };
+    let place = (market as usize).wrapping_sub(1);
+    let round = was.markets().get(place).copied().unwrap_or_default();
+    wrong_if(round.phase != Phase::Collect, "a match where the round does not collect")?;
+    let [buys, sells] = round.halves;
+    let (base, quote) = (u64::from(answer.first), u64::from(answer.second));
+    let halves =
+        [Half { paid: quote, got: base, ..buys }, Half { paid: base, got: quote, ..sells }];
+    let started = Market { phase: Phase::Auction, start: block, halves, ..round };
+    wrong_if(is.markets()[place] != started, "a match does not start the auction it answers")?;
+
+    let offered = sells.total.min(buys.total * MILLION / round.reference);
+    let least = (round.lo * offered).div_ceil(MILLION);
+    let most = round.hi * offered / MILLION;
+    if (base, quote) == (0, 0) {
+        return wrong_if(offered > 0 && least <= most, "a match dropped that a quote would suit");
+    }
+    wrong_if(base != offered, "a match of other base than both sides offer")?;
+    wrong_if(quote > buys.total, "a match takes more quote than the buys offer")?;
+    wrong_if(!(least..=most).contains(&quote), "a match breaks a bound")?;
+    let (worth, paid) = (base * round.reference, quote * MILLION);
+    wrong_if(paid.abs_diff(worth) >= MILLION, "a match a unit of quote off its worth")?;
+    wrong_if(paid < worth && quote < most, "a match rounded down where up keeps hi")
 }
 
 fn wrong_if(wrong: bool, text: &'static str) -> Result<(), &'static str> {

@@ -162,6 +162,24 @@ impl Market {
             self.lo + step
         }
     }
+
+    /// The base and the quote that a match trades now. The quote is rounded up.
+    /// Where that breaks hi, it is rounded down instead and kept when it is at
+    /// least 1 and meets lo; only otherwise are both 0.
+    fn trade(&self) -> (u64, u64) {
+        let [buys, sells] = &self.halves;
+        let base = sells.total.min(buys.total * MILLION / self.reference);
+        let product = base * self.reference;
+        let up = product.div_ceil(MILLION);
+        if up * MILLION <= self.hi * base {
+            return (base, up);
+        }
+        let down = product / MILLION;
+        if down >= 1 && down * MILLION >= self.lo * base {
+            return (base, down);
+        }
+        (0, 0)
+    }
 }
 
 /// The quote of a bid: rounded up where the maker pays it (side 1), rounded
@@ -471,13 +489,8 @@ impl Exchange {
         if block - round.opened < COLLECT_BLOCKS {
             return Answer::refused(13);
         }
+        let (base, quote) = round.trade();
         let [buys, sells] = &mut round.halves;
-        let mut base = sells.total.min(buys.total * MILLION / round.reference);
-        let mut quote = (base * round.reference).div_ceil(MILLION);
-        if quote * MILLION > round.hi * base {
-            base = 0;
-            quote = 0;
-        }
         buys.paid = quote;
         buys.got = base;
         sells.paid = base;
@@ -862,6 +875,79 @@ mod tests {
         for (was, is, call) in [(&was, &is, leave), (&is, &was, Call::Enter { ticket: 2 })] {
             let text = "enter or leave where the round does not collect";
             told(was, is, call, Answer::accepted(offer, 0), text);
+        }
+    }
+
+    /// Market 1 collects at this reference and slack, with so much offered on
+    /// each side.
+    fn collecting(reference: u32, slack: u32, buys: u32, sells: u32) -> Exchange {
+        let mut x = Exchange::new();
+        x.deposit(0, 0, buys);
+        x.deposit(1, 1, sells);
+        x.order(0, 0, 1, 0, MOST_LIMIT, buys);
+        x.order(1, 1, 1, 1, 1, sells);
+        x.open(1, 0, reference, slack, 1);
+        accept(&mut x, &["6,0", "6,1"]);
+        x
+    }
+
+    /// Each trade of a match of market 1 that is not the engine's, told by its
+    /// text.
+    fn match_tells(was: &Exchange, trades: &[(u64, u64, &str)]) {
+        let call = Call::Match { market: 1, block: 4 };
+        let (is, _) = accepted(was, call);
+        for &(base, quote, text) in trades {
+            let mut x = is.clone();
+            let [buys, sells] = &mut x.markets[0].halves;
+            (buys.paid, buys.got) = (quote, base);
+            (sells.paid, sells.got) = (base, quote);
+            told(was, &x, call, Answer::accepted(base, quote), text);
+        }
+    }
+
+    #[test]
+    fn wrong_matches_are_told() {
+        let dropped = "a match dropped that a quote would suit";
+        let other = "a match of other base than both sides offer";
+        let more = "a match takes more quote than the buys offer";
+        let bound = "a match breaks a bound";
+        let off = "a match a unit of quote off its worth";
+        let down = "a match rounded down where up keeps hi";
+        // 3 base for 6 of 7 quote, between 5.67 and 6.93; rounded up it would be 7
+        let wrong = [
+            (0, 0, dropped),
+            (2, 4, other),
+            (4, 6, other),
+            (0, 6, other),
+            (3, 8, more),
+            (3, 7, bound),
+            (3, 5, bound),
+            (3, 0, bound),
+        ];
+        match_tells(&collecting(2_100_000, 100_000, 7, 9), &wrong);
+        // 10 base for 21 quote, between 18.9 and 23.1
+        let wrong = [(10, 20, off), (10, 22, off), (0, 0, dropped)];
+        match_tells(&collecting(2_100_000, 100_000, 30, 10), &wrong);
+        // 1 base for 2 quote, between 0.75 and 2.25
+        match_tells(&collecting(1_500_000, 500_000, 9, 1), &[(1, 1, down), (0, 0, dropped)]);
+        // nothing: no whole quote is 7.5, and none is from 0.3 to 0.9
+        match_tells(&collecting(2_500_000, 0, 100, 3), &[(3, 7, bound), (3, 8, bound)]);
+        match_tells(&collecting(600_000, 500_000, 9, 1), &[(1, 0, bound), (1, 1, bound)]);
+
+        let was = collecting(2_100_000, 100_000, 7, 9);
+        let call = Call::Match { market: 1, block: 4 };
+        let (is, answer) = accepted(&was, call);
+        let text = "a match does not start the auction it answers";
+        let changes: [Change; 3] = [
+            |x| x.markets[0].start = 5,
+            |x| x.markets[0].hi += 1,
+            |x| x.markets[0].phase = Phase::Paying,
+        ];
+        call_tells(&was, call, text, &changes);
+        told(&was, &is, call, Answer::accepted(3, 5), text);
+        let text = "a match where the round does not collect";
+        for market in [0, 1, 2, 4] {
+            told(&is, &is, Call::Match { market, block: 4 }, answer, text);
         }
     }
 }

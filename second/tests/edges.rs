@@ -1,7 +1,8 @@
 //! Tests of the exchange: the day of the specification with its answers,
-//! every edge that the specification lists, the order of the refusals, what a
-//! round leaves behind, and members who leave one. The books are checked after
-//! each call, and that enter and leave undo each other.
+//! every edge that the specification lists, small matches and how they are
+//! rounded, the order of the refusals, what a round leaves behind, and members
+//! who leave one. The books are checked after each call: so is every match, and
+//! that enter and leave undo each other.
 
 use second::{answer_line, books, read_call, Exchange, Phase, Place};
 
@@ -98,11 +99,13 @@ fn bounds_at_the_smallest_references() {
     assert_eq!(house.call("5,3,0,1000000000,500000,64"), (0, 1500000000, 500000000));
 }
 
-fn small_match(sells: u32) -> (u8, u32, u32) {
+/// The answer of a match with these totals, whose orders have hi and lo for
+/// their limits.
+fn small_match(reference: u32, slack: u32, buys: u32, sells: u32) -> (u8, u32, u32) {
     let mut house = House::new();
-    house.calls(&["1,0,0,100", &format!("1,1,1,{sells}")]);
-    house.calls(&["3,0,0,1,0,2500000,100", &format!("3,1,1,1,1,2500000,{sells}")]);
-    assert_eq!(house.call("5,1,0,2500000,0,1"), (0, 2500000, 2500000));
+    let (_, hi, lo) = house.call(&format!("5,1,0,{reference},{slack},1"));
+    house.calls(&[&format!("1,0,0,{buys}"), &format!("1,1,1,{sells}")]);
+    house.calls(&[&format!("3,0,0,1,0,{hi},{buys}"), &format!("3,1,1,1,1,{lo},{sells}")]);
     house.calls(&["6,0", "6,1"]);
     let answer = house.call("7,1,4");
     assert_eq!(house.phase(1), Phase::Auction);
@@ -112,8 +115,151 @@ fn small_match(sells: u32) -> (u8, u32, u32) {
 
 #[test]
 fn a_match_above_the_high_bound_is_dropped() {
-    assert_eq!(small_match(3), (0, 0, 0));
-    assert_eq!(small_match(4), (0, 4, 10));
+    assert_eq!(small_match(2500000, 0, 100, 3), (0, 0, 0));
+    assert_eq!(small_match(2500000, 0, 100, 4), (0, 4, 10));
+}
+
+#[test]
+fn a_match_above_the_high_bound_is_rounded_down() {
+    // hi 2310000, lo 1890000
+    assert_eq!(small_match(2100000, 100000, 1000, 1), (0, 1, 2));
+    assert_eq!(small_match(2100000, 100000, 3, 1), (0, 1, 2));
+    assert_eq!(small_match(2100000, 100000, 1000, 3), (0, 3, 6));
+    // The buys are the smaller side.
+    assert_eq!(small_match(2100000, 100000, 7, 1000), (0, 3, 6));
+    // 2 quote fetch no whole base unit at the reference.
+    assert_eq!(small_match(2100000, 100000, 2, 1), (0, 0, 0));
+    // 8.4 rounded up is 9, within 9.24.
+    assert_eq!(small_match(2100000, 100000, 1000, 4), (0, 4, 9));
+}
+
+#[test]
+fn a_match_rounded_down_meets_the_low_bound() {
+    // 2 quote for 1 base: lo is 2000002, then 2000000.
+    assert_eq!(small_match(2400000, 166666, 1000, 1), (0, 0, 0));
+    assert_eq!(small_match(2400000, 166667, 1000, 1), (0, 1, 2));
+    // 7 quote for 3 base: lo is 2333336, then 2333333, the last that 7 meets.
+    assert_eq!(small_match(2400000, 27777, 1000, 3), (0, 0, 0));
+    assert_eq!(small_match(2400000, 27778, 1000, 3), (0, 3, 7));
+    // 999 quote for 1 base: lo is 999000001, then 999000000.
+    assert_eq!(small_match(999001000, 1, 1000, 1), (0, 0, 0));
+    assert_eq!(small_match(999000999, 1, 1000, 1), (0, 1, 999));
+}
+
+#[test]
+fn a_match_of_much_base_is_rounded_down() {
+    // hi 1000002, lo 1000000: from 500000 base on the quote rounded up keeps hi.
+    assert_eq!(small_match(1000001, 1, 1000000, 499999), (0, 499999, 499999));
+    assert_eq!(small_match(1000001, 1, 1000000, 500000), (0, 500000, 500001));
+    // hi 333334, lo 333332, and 333332.000001 quote.
+    assert_eq!(small_match(333333, 4, 1000000, 999997), (0, 999997, 333332));
+}
+
+#[test]
+fn a_match_rounded_down_to_no_quote_is_dropped() {
+    // hi 900000, lo 300000: 1 quote for 1 base is too much.
+    assert_eq!(small_match(600000, 500000, 1000, 1), (0, 0, 0));
+    // 1.2 for 2 base: 2 is too much, 1 will do.
+    assert_eq!(small_match(600000, 500000, 1000, 2), (0, 2, 1));
+    assert_eq!(small_match(1, 500000, 1000, 1), (0, 0, 0));
+}
+
+#[test]
+fn a_match_within_the_high_bound_stays_rounded_up() {
+    // hi 2250000, lo 750000: 1 quote would do as well.
+    assert_eq!(small_match(1500000, 500000, 9, 1), (0, 1, 2));
+    // 3.9 rounded up is 4, within 4.29.
+    assert_eq!(small_match(1300000, 100000, 1000, 3), (0, 3, 4));
+    // hi 2000000 is just met; hi 1999999 is broken, and 1 quote is below lo.
+    assert_eq!(small_match(1818182, 100000, 1000, 1), (0, 1, 2));
+    assert_eq!(small_match(1818181, 100000, 1000, 1), (0, 0, 0));
+    // hi 1250000 is just met; hi 1249999 is broken, and 4 quote will do.
+    assert_eq!(small_match(1111111, 125001, 1000, 4), (0, 4, 5));
+    assert_eq!(small_match(1111111, 125000, 1000, 4), (0, 4, 4));
+}
+
+#[test]
+fn small_matches_of_many_terms() {
+    for reference in (1..=5_000_000).step_by(33_333) {
+        for slack in [0, 1, 1_000, 50_000, 100_000, 250_000, 333_333, 500_000] {
+            for sells in 1..=5 {
+                assert_eq!(small_match(reference, slack, 1000, sells).0, 0);
+            }
+        }
+    }
+}
+
+/// A match rounded down, before its auction ends: the buys of 3 quote have 1
+/// left.
+const ROUNDED_DOWN: [(&str, (u8, u32, u32)); 8] = [
+    ("1,0,0,3", (0, 3, 0)),
+    ("1,1,1,1", (0, 1, 0)),
+    ("3,0,0,1,0,2310000,3", (0, 3, 0)),
+    ("3,1,1,1,1,1890000,1", (0, 1, 0)),
+    ("5,1,0,2100000,100000,1", (0, 2310000, 1890000)),
+    ("6,0", (0, 3, 0)),
+    ("6,1", (0, 1, 0)),
+    ("7,1,4", (0, 1, 2)),
+];
+
+#[test]
+fn a_day_of_a_match_rounded_down() {
+    let mut house = House::new();
+    house.answers(&ROUNDED_DOWN);
+    house.answers(&[
+        ("8,1,2,4,1,1,4294967295", (17, 0, 0)),
+        ("8,1,2,4,0,1,2", (18, 0, 0)),
+        ("8,1,2,4,0,1,1", (19, 0, 0)),
+        ("9,1,5", (13, 0, 0)),
+        ("9,1,6", (0, 2, 1)),
+        ("10,0", (0, 2, 1)),
+        ("10,1", (0, 1, 2)),
+        ("4,0,0", (0, 1, 0)),
+    ]);
+    assert_eq!(house.phase(1), Phase::Closed);
+    assert_eq!(*house.exchange.tray(), [0; 4]);
+    assert_eq!(house.exchange.balances()[0], [1, 1, 0, 0]);
+    assert_eq!(house.exchange.balances()[1], [2, 0, 0, 0]);
+}
+
+#[test]
+fn a_maker_takes_what_a_match_rounded_down_left() {
+    let mut house = House::new();
+    house.answers(&ROUNDED_DOWN);
+    house.answers(&[
+        ("1,2,1,1", (0, 1, 0)),
+        ("9,1,4", (13, 0, 0)),
+        ("8,1,2,5,0,1,0", (17, 0, 0)),
+        ("8,1,2,4,0,1,1", (0, 1, 1)),
+        ("9,1,4", (0, 3, 1)),
+        ("10,1", (0, 1, 2)),
+        ("10,0", (0, 3, 2)),
+        ("4,0,0", (8, 0, 0)),
+    ]);
+    assert_eq!(house.phase(1), Phase::Closed);
+    assert_eq!(*house.exchange.tray(), [0; 4]);
+    assert_eq!(house.exchange.balances()[0], [0, 2, 0, 0]);
+    assert_eq!(house.exchange.balances()[1], [2, 0, 0, 0]);
+    assert_eq!(house.exchange.balances()[2], [1, 0, 0, 0]);
+}
+
+#[test]
+fn shares_of_a_match_rounded_down() {
+    let mut house = House::new();
+    house.calls(&["1,0,0,7", "1,1,1,3", "5,1,0,2100000,100000,1"]);
+    house.calls(&["3,0,0,1,0,2310000,4", "3,1,0,1,0,2310000,3"]);
+    house.calls(&["3,2,1,1,1,1890000,1", "3,3,1,1,1,1890000,2"]);
+    house.calls(&["6,0", "6,1", "6,2", "6,3"]);
+    house.answers(&[
+        ("7,1,4", (0, 3, 6)),
+        ("9,1,6", (0, 6, 3)),
+        ("10,2", (0, 1, 2)),
+        ("10,0", (0, 4, 1)),
+        ("10,3", (0, 2, 4)),
+        ("10,1", (0, 3, 1)),
+    ]);
+    assert_eq!(house.phase(1), Phase::Closed);
+    assert_eq!(*house.exchange.tray(), [1, 1, 0, 0]);
 }
 
 #[test]

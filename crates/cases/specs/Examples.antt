@@ -589,6 +589,71 @@ matchesBounded =
     ∷ residue-is 0 0
     ∷ []
 
+-- Document 02, L4: matches whose c rounded up breaks hi, in three markets at once. In market 1 the request's own, with the least quote that is
+-- enough and limits just hi and just lo. In market 2 c rounded down just meets lo, and a maker takes of what is left. In market 3 lo is two
+-- millionths higher, and the match is dropped.
+unfoldable pub matchesLowered : List Line
+matchesLowered =
+    accepted (Deposit 0 0 13) 13 0
+    ∷ accepted (Deposit 1 1 1) 1 0
+    ∷ accepted (Deposit 1 2 1) 1 0
+    ∷ accepted (Deposit 1 3 1) 1 0
+    ∷ accepted (Deposit 15 2 1) 1 0
+    ∷ accepted (Order 0 0 1 0 2310000 3) 3 0
+    ∷ accepted (Order 1 1 1 1 1890000 1) 1 0
+    ∷ accepted (Order 2 0 2 0 2800000 5) 5 0
+    ∷ accepted (Order 3 1 2 1 2000000 1) 1 0
+    ∷ accepted (Order 4 0 3 0 2799998 5) 5 0
+    ∷ accepted (Order 5 1 3 1 2000002 1) 1 0
+    ∷ accepted (Open 1 0 2100000 100000 1) 2310000 1890000
+    -- 2,800,000.8 down, 1,999,999.2 up
+    ∷ accepted (Open 2 0 2400000 166667 1) 2800000 2000000
+    -- 2,799,998.4 down, 2,000,001.6 up
+    ∷ accepted (Open 3 0 2400000 166666 1) 2799998 2000002
+    ∷ accepted (Enter 0) 3 0
+    ∷ accepted (Enter 1) 1 0
+    ∷ accepted (Enter 2) 5 0
+    ∷ accepted (Enter 3) 1 0
+    ∷ accepted (Enter 4) 5 0
+    ∷ accepted (Enter 5) 1 0
+    -- c 2.1 up 3, above hi; down 2, and 2,000,000 is not below 1,890,000
+    ∷ accepted (Match 1 4) 1 2
+    -- c 2.4 up 3, above hi; down 2, and 2,000,000 is just lo
+    ∷ accepted (Match 2 4) 1 2
+    -- 2,000,000 is below 2,000,002
+    ∷ accepted (Match 3 4) 0 0
+    -- 3 quote are left, at 2 for one base
+    ∷ accepted (Bid 2 15 4 0 1 2) 1 2
+    -- 1 quote is left
+    ∷ refused (Settle 1 5) 13
+    ∷ accepted (Settle 1 6) 2 1
+    ∷ accepted (Settle 2 6) 4 1
+    ∷ accepted (Settle 3 6) 0 0
+    ∷ accepted (Claim 0) 2 1
+    ∷ accepted (Claim 1) 1 2
+    ∷ accepted (Claim 2) 4 2
+    ∷ accepted (Claim 3) 1 2
+    ∷ accepted (Claim 4) 0 0
+    ∷ accepted (Claim 5) 0 0
+    ∷ closed-is 1 true
+    ∷ closed-is 2 true
+    ∷ closed-is 3 true
+    ∷ accepted (Cancel 0 0) 1 0
+    ∷ accepted (Cancel 2 0) 1 0
+    ∷ accepted (Cancel 4 0) 5 0
+    ∷ accepted (Cancel 5 1) 1 0
+    ∷ balance-is 0 0 7
+    ∷ balance-is 0 1 1
+    ∷ balance-is 0 2 2
+    ∷ balance-is 1 0 4
+    ∷ balance-is 1 3 1
+    ∷ balance-is 15 0 2
+    ∷ residue-is 0 0
+    ∷ residue-is 1 0
+    ∷ residue-is 2 0
+    ∷ residue-is 3 0
+    ∷ []
+
 -- At a price of 0.4 two base bring 0 quote, which is 17, and three bring 1. The bids take all quote, so the settle is early.
 unfoldable pub quoteOfNothing : List Line
 quoteOfNothing =
@@ -1013,6 +1078,7 @@ examples =
     ∷ nothingSold
     ∷ threeSells
     ∷ matchesBounded
+    ∷ matchesLowered
     ∷ quoteOfNothing
     ∷ lateMatches
     ∷ lastPlaces

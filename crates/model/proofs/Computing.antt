@@ -3,7 +3,7 @@ use Rattle.units.specs.Rounding.{down, up}
 use Rattle.units.specs.Sums.{sumTo, sumOver, only}
 use Rattle.units.specs.Decimal.{digits}
 use Rattle.ticket_set.specs.TicketSet.{bit, inserted, removed, countOf}
-use Rattle.pricing.specs.Prices.{highBound, lowBound, matchBase, matchQuote, tradeWithin, auctionPrice, quoteFor, sharePaid, shareGot}
+use Rattle.pricing.specs.Prices.{highBound, lowBound, matchBase, matchQuote, lowerQuote, tradeWithin, auctionPrice, quoteFor, sharePaid, shareGot}
 use Rattle.ledger.specs.Balances.{cellOf, withCell, creditedRow, debitedRow, rowOf, withRow, balanceIn, credited, debited, totalIn, freshLedger}
 use Rattle.model.specs.Answers.{answerLine}
 use Rattle.model.specs.Run.{stepOf, requestOf, eventsOf, stateAfter}
@@ -13,7 +13,7 @@ use Rattle.model.specs.Scripts.{requestsFrom}
 
 -- one call
 unfoldable pub call-computes : Unit {0}
-unfolding stepOf highBound lowBound matchBase matchQuote tradeWithin auctionPrice quoteFor sharePaid shareGot down up sumTo bit inserted removed countOf cellOf withCell creditedRow debitedRow rowOf withRow balanceIn credited debited freshLedger
+unfolding stepOf highBound lowBound matchBase matchQuote lowerQuote tradeWithin auctionPrice quoteFor sharePaid shareGot down up sumTo bit inserted removed countOf cellOf withCell creditedRow debitedRow rowOf withRow balanceIn credited debited freshLedger
 call-computes = tt
 
 -- a list of requests

@@ -46,7 +46,7 @@ module _ (h : Exchange) (y : History) (i : Inv h y) (mk at : ℕ) (pos : 0 < mk)
   fits : TradeFits (T b Buy) (T b Sell) (r .lo .0) (r .hi .0) (tradeOf r)
   fits =
       subst₂ (λ (q s : ℕ). TradeFits q s (r .lo .0) (r .hi .0) (tradeOf r)) (rOk .total Buy) (rOk .total Sell)
-      (trade-fits (r .buys .total .0) (r .sells .total .0) (r .reference .0) (r .hi .0) (r .lo .0) (rOk .terms .order-low))
+      (trade-fits (r .buys .total .0) (r .sells .total .0) (r .reference .0) (r .hi .0) (r .lo .0) (rOk .terms .order-low) (rOk .terms .order-high))
 
   -- where one side offers nothing, nothing is traded
   nothing-traded : (m ≡ 0 → c ≡ 0) × (1 ≤ r .lo .0 → c ≡ 0 → m ≡ 0)

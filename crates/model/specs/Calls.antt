@@ -267,7 +267,7 @@ matchedRound r at t =
 
 -- what round r's two sides trade
 abbrev pub tradeOf : Round → Trade
-tradeOf r = tradeWithin (r .buys .total .0) (r .sells .total .0) (r .reference .0) (r .hi .0)
+tradeOf r = tradeWithin (r .buys .total .0) (r .sells .total .0) (r .reference .0) (r .hi .0) (r .lo .0)
 
 -- "Answers m, c"
 abbrev pub matchWith : Exchange → ℕ → ℕ → Round → Outcome

@@ -7,6 +7,7 @@ use Rattle.pricing.specs.Prices.{
   lowBound,
   matchBase,
   matchQuote,
+  lowerQuote,
   tradeWithin,
   auctionPrice,
   quoteFor,
@@ -15,7 +16,7 @@ use Rattle.pricing.specs.Prices.{
   shareOf,
   fetches,
 }
-use Rattle.pricing.specs.Examples.{openCases, limitCases, matchCases, bidCases, claimCases}
+use Rattle.pricing.specs.Examples.{openCases, limitCases, matchCases, tradeCases, bidCases, claimCases}
 
 pub opens : given openCases ≡ byHand openCases
 unfolding openCases highBound lowBound down up
@@ -26,8 +27,12 @@ unfolding limitCases
 limits = refl
 
 pub matches : given matchCases ≡ byHand matchCases
-unfolding matchCases matchBase matchQuote tradeWithin down up
+unfolding matchCases matchBase matchQuote lowerQuote down up
 matches = refl
+
+pub trades : given tradeCases ≡ byHand tradeCases
+unfolding tradeCases tradeWithin highBound lowBound matchBase matchQuote lowerQuote down up
+trades = refl
 
 pub bids : given bidCases ≡ byHand bidCases
 unfolding bidCases auctionPrice quoteFor down up

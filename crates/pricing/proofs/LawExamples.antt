@@ -6,11 +6,11 @@ use native.Mathlib.Omega.{arith}
 use Rattle.units.specs.Rounding.{down, up}
 use Rattle.units.specs.Sums.{sumOver}
 use Rattle.pricing.specs.declared.Side.the-variants.{Buy, Sell}
-use Rattle.pricing.specs.Prices.{sharePaid, shareGot}
+use Rattle.pricing.specs.Prices.{lowerQuote, matchBase, matchQuote, tradeWithin, sharePaid, shareGot}
 use Rattle.pricing.specs.LawExamples.{threeOffers, LawsUsed, LawsMet, LawsRefused}
 
 pub laws-used : LawsUsed
-unfolding sumOver
+unfolding sumOver tradeWithin matchBase matchQuote lowerQuote down up
 laws-used =
     record {
       buys-rise = λ a b m. m;
@@ -31,8 +31,12 @@ laws-used =
       prices-last = λ w x len l. w x 100 93 len len (omega arith) l (omega arith);
       prices-one = λ w x hi lo l. w x hi lo 1 1 l (omega arith) (omega arith);
       prices-same = λ w x k l. w x 5 5 k 64 (omega arith) (omega arith) l;
-      trades-at-lo = λ w q s hi. w q s 2500000 hi 2500000 (omega arith);
-      trades-under = λ w q s. w q s 2500000 2499999 2500000 (omega arith);
+      trades-at-lo = λ w q s hi l. w q s 2500000 hi 2500000 (omega arith) l;
+      trades-at-hi = λ w q s lo l. w q s 2500000 2500000 lo l (omega arith);
+      trades-exact = λ w q s r. let f = w q s r r r (omega arith) (omega arith) in omega (arith, f .not-above, f .not-below);
+      drops-three = λ w c l. w 100 3 2500000 2500000 2500000 c (omega arith) (omega arith) refl l;
+      drops-low = λ w c l. w 1000 1 2400000 2799998 2000002 c (omega arith) (omega arith) refl l;
+      drops-least = λ w c l. w 1000 1 600000 900000 1 c (omega arith) (omega arith) refl l;
       shares-three = λ w P G. w 301 P G threeOffers (omega arith) refl;
       shares-one = λ w P G. w 1 P G (1 ∷ []) (omega arith) refl;
       buy-limit = λ w o P G T p r. w Buy 2750000 2750000 2250000 o P G T p (omega arith) refl r;
@@ -51,7 +55,7 @@ laws-met =
     }
 
 pub laws-refused : LawsRefused
-unfolding sharePaid shareGot sumOver down up
+unfolding tradeWithin matchBase matchQuote lowerQuote sharePaid shareGot sumOver down up
 laws-refused =
     record {
       buys-fall = λ m. omega (arith, m);
@@ -66,6 +70,7 @@ laws-refused =
       quote-over = λ f. let h : 10 ≤ 9 = f .quote-fits in omega (arith, h);
       price-above = λ f. let h : 10000000 ≤ 9999996 = f .not-above in omega (arith, h);
       price-below = λ f. let h : 10000004 ≤ 10000000 = f .not-below in omega (arith, h);
+      high-below = λ f. let h : 3000000 ≤ 1 = f .not-above in omega (arith, h);
       paid-short = λ s. let h : 2 ≤ 1 = s .paid-enough in omega (arith, h);
       paid-over = λ s. let h : 2 < 2 = s .paid-close (omega arith) in omega (arith, h);
       got-over = λ s. let h : 3 ≤ 2 = s .got-within in omega (arith, h);

@@ -1,4 +1,4 @@
--- Cases of document 01's prices, trades and shares, worked by hand.
+-- Cases of the prices, trades and shares of document 01, and of document 02's L4, worked by hand.
 use Prim.Native.Nat.{ℕ}
 use mathlib.Core.Bool.{Bool, true, false}
 use mathlib.Core.List.{List, [], _∷_, map}
@@ -13,6 +13,7 @@ use Rattle.pricing.specs.Prices.{
   offLimit,
   matchBase,
   matchQuote,
+  lowerQuote,
   tradeWithin,
   auctionPrice,
   quoteFor,
@@ -58,9 +59,6 @@ limitCases =
 
 -- ---- 7 match: base and quote
 
-abbrev pub pair : Trade → List ℕ
-pair t = t .base .0 ∷ t .quote .0 ∷ []
-
 unfoldable pub matchCases : List (List ℕ × List ℕ)
 matchCases =
     -- S the smaller, Q×1,000,000/r the smaller, both the same: 600 quote fetch 240 base at 2.5
@@ -72,20 +70,54 @@ matchCases =
       matchQuote 240 2500000 ∷ matchQuote 3 2500000 ∷ matchQuote 4 2500000 ∷ matchQuote 1 1 ∷ matchQuote 0 5 ∷ [],
       600 ∷ 8 ∷ 10 ∷ 1 ∷ 0 ∷ [],
     )
+    -- "rounded down instead": the same
+    ∷ (
+      lowerQuote 240 2500000 ∷ lowerQuote 3 2500000 ∷ lowerQuote 4 2500000 ∷ lowerQuote 1 1 ∷ lowerQuote 0 5 ∷ [],
+      600 ∷ 7 ∷ 10 ∷ 0 ∷ 0 ∷ [],
+    )
+    ∷ []
+
+abbrev pub pair : Trade → List ℕ
+pair t = t .base .0 ∷ t .quote .0 ∷ []
+
+-- what buys of q quote and sells of s base trade at reference price r and slack w
+abbrev pub matched : ℕ → ℕ → ℕ → ℕ → List ℕ
+matched r w q s = pair (tradeWithin q s r (highBound r w) (lowBound r w))
+
+unfoldable pub tradeCases : List (List ℕ × List ℕ)
+tradeCases =
     -- the day's
-    ∷ (pair (tradeWithin 600 300 2500000 2750000), 240 ∷ 600 ∷ [])
+    (matched 2500000 100000 600 300, 240 ∷ 600 ∷ [])
     -- "r 2,500,000, w 0, Q 100: S 3 gives 0, 0; S 4 gives 4, 10.": 4 costs just hi
-    ∷ (pair (tradeWithin 100 3 2500000 2500000), 0 ∷ 0 ∷ [])
-    ∷ (pair (tradeWithin 100 4 2500000 2500000), 4 ∷ 10 ∷ [])
-    -- "Where c×1,000,000 > hi×m": 8 for 3 base, where hi is 2.666666 and 2.666667
-    ∷ (pair (tradeWithin 100 3 2500000 2666666), 0 ∷ 0 ∷ [])
-    ∷ (pair (tradeWithin 100 3 2500000 2666667), 3 ∷ 8 ∷ [])
-    -- 1 for 1 base, where hi is a millionth less and where it is just that
-    ∷ (pair (tradeWithin 1 1 999999 999999), 0 ∷ 0 ∷ [])
-    ∷ (pair (tradeWithin 1 1 1000000 1000000), 1 ∷ 1 ∷ [])
+    ∷ (matched 2500000 0 100 3, 0 ∷ 0 ∷ [])
+    ∷ (matched 2500000 0 100 4, 4 ∷ 10 ∷ [])
+    -- "With r 2,100,000 and slack 100,000, one base unit against enough quote", between 1.89 and 2.31: 3 quote are enough, 2 fetch no base
+    ∷ (matched 2100000 100000 1000 1, 1 ∷ 2 ∷ [])
+    ∷ (matched 2100000 100000 3 1, 1 ∷ 2 ∷ [])
+    ∷ (matched 2100000 100000 2 1, 0 ∷ 0 ∷ [])
+    -- three base come to 6.3: 7 are above 6.93, 6 not below 5.67; 7 quote fetch three base
+    ∷ (matched 2100000 100000 1000 3, 3 ∷ 6 ∷ [])
+    ∷ (matched 2100000 100000 7 100, 3 ∷ 6 ∷ [])
+    -- "c×1,000,000 ≥ lo×m": 2 for one base, where lo is 2.000002, and where it is just 2
+    ∷ (matched 2400000 166666 1000 1, 0 ∷ 0 ∷ [])
+    ∷ (matched 2400000 166667 1000 1, 1 ∷ 2 ∷ [])
+    -- "c is at least 1": 1.000001 down is 1, 0.6 down is 0. That is below lo too, but for a lo of 0, which no round has
+    ∷ (matched 1000001 1 1000 1, 1 ∷ 1 ∷ [])
+    ∷ (matched 600000 500000 1000 1, 0 ∷ 0 ∷ [])
+    ∷ (pair (tradeWithin 1000 1 600000 900000 0), 0 ∷ 0 ∷ [])
+    -- rounded up where that keeps hi: 1.5 and 3.9. Rounded down the first would keep lo too, and the second would not
+    ∷ (matched 1500000 500000 9 1, 1 ∷ 2 ∷ [])
+    ∷ (matched 1300000 100000 1000 3, 3 ∷ 4 ∷ [])
+    -- 7.5 for three base, with hi a millionth on either side of 8 / 3, and lo of 7 / 3
+    ∷ (pair (tradeWithin 100 3 2500000 2666667 2333333), 3 ∷ 8 ∷ [])
+    ∷ (pair (tradeWithin 100 3 2500000 2666666 2333333), 3 ∷ 7 ∷ [])
+    ∷ (pair (tradeWithin 100 3 2500000 2666666 2333334), 0 ∷ 0 ∷ [])
+    -- 1 for one base, where hi is a millionth less and where it is just that
+    ∷ (matched 999999 0 1 1, 0 ∷ 0 ∷ [])
+    ∷ (matched 1000000 0 1 1, 1 ∷ 1 ∷ [])
     -- nothing on a side
-    ∷ (pair (tradeWithin 0 5 2500000 2750000), 0 ∷ 0 ∷ [])
-    ∷ (pair (tradeWithin 5 0 2500000 2750000), 0 ∷ 0 ∷ [])
+    ∷ (matched 2500000 100000 0 5, 0 ∷ 0 ∷ [])
+    ∷ (matched 2500000 100000 5 0, 0 ∷ 0 ∷ [])
     ∷ []
 
 -- ---- 8 bid

@@ -1,11 +1,12 @@
 -- The laws of Laws.antt in numbers: what each gives where it is just met, and what each refuses one unit further.
 use Prim.Native.Nat.{ℕ, _+_, _-_, _*_, _≤_, _<_}
+use mathlib.Core.Path.{_≡_}
 use mathlib.Core.List.{List, [], _∷_}
 use Rattle.pricing.specs.declared.Side.{Side}
 use Rattle.pricing.specs.declared.Side.the-variants.{Buy, Sell}
 use Rattle.pricing.specs.declared.Trade.{Trade}
 use Rattle.pricing.specs.Prices.{trade, tradeWithin, auctionPrice, sharePaid, shareGot, fetches}
-use Rattle.pricing.specs.Laws.{Moves, TradeFits, ShareLaw, Rate, PricesWithin, TradesFit, SharesHold, LimitsHold}
+use Rattle.pricing.specs.Laws.{Moves, TradeFits, ShareLaw, Rate, PricesWithin, TradesFit, DropsOnly, SharesHold, LimitsHold}
 
 -- "Offers 100, 100, 101 (T 301)"
 abbrev pub threeOffers : List ℕ
@@ -39,9 +40,16 @@ pub record LawsUsed : Type 0 where
   pub prices-last : PricesWithin → (x : Side) (len : ℕ) → 0 < len → (93 ≤ auctionPrice x 100 93 len len) × (auctionPrice x 100 93 len len ≤ 100)
   pub prices-one : PricesWithin → (x : Side) (hi lo : ℕ) → lo ≤ hi → (lo ≤ auctionPrice x hi lo 1 1) × (auctionPrice x hi lo 1 1 ≤ hi)
   pub prices-same : PricesWithin → (x : Side) (k : ℕ) → k ≤ 64 → (5 ≤ auctionPrice x 5 5 k 64) × (auctionPrice x 5 5 k 64 ≤ 5)
-  -- what any two sides trade where lo is r, and with a hi below it
-  pub trades-at-lo : TradesFit → (q s hi : ℕ) → TradeFits q s 2500000 hi (tradeWithin q s 2500000 hi)
-  pub trades-under : TradesFit → (q s : ℕ) → TradeFits q s 2500000 2499999 (tradeWithin q s 2500000 2499999)
+  -- what any two sides trade where lo is r, and where hi is
+  pub trades-at-lo : TradesFit → (q s hi : ℕ) → 2500000 ≤ hi → TradeFits q s 2500000 hi (tradeWithin q s 2500000 hi 2500000)
+  pub trades-at-hi : TradesFit → (q s lo : ℕ) → lo ≤ 2500000 → TradeFits q s lo 2500000 (tradeWithin q s 2500000 2500000 lo)
+  -- without slack a trade is exact, so that both roundings are one number
+  pub trades-exact :
+      TradesFit → (q s r : ℕ) → tradeWithin q s r r r .quote .0 * 1000000 ≡ r * tradeWithin q s r r r .base .0
+  -- the marked edge; 2 for one base a little below lo; the least base and lo
+  pub drops-three : DropsOnly → (c : ℕ) → c * 1000000 ≤ 7500000 → c * 1000000 < 7500000
+  pub drops-low : DropsOnly → (c : ℕ) → c * 1000000 ≤ 2799998 → c * 1000000 < 2000002
+  pub drops-least : DropsOnly → (c : ℕ) → c * 1000000 ≤ 900000 → c * 1000000 < 1
   -- the three offers and the one, whatever is paid and got: more than T too
   pub shares-three : SharesHold → (P G : ℕ) → ShareLaw 301 P G threeOffers
   pub shares-one : SharesHold → (P G : ℕ) → ShareLaw 1 P G (1 ∷ [])
@@ -81,6 +89,8 @@ pub record LawsRefused : Type 0 where
   pub quote-over : TradeFits 9 4 2500000 2500000 (trade 4 10) → ⊥
   pub price-above : TradeFits 10 4 2499999 2499999 (trade 4 10) → ⊥
   pub price-below : TradeFits 10 4 2500001 2500001 (trade 4 10) → ⊥
+  -- why the law asks r ≤ hi: for a quote rounded down hi is not tested again, and at r 3 with a hi of a millionth one base brings 3
+  pub high-below : TradeFits 100 1 0 1 (tradeWithin 100 1 3000000 1 0) → ⊥
   -- offers that are not their side's: 1 of 2 pays 1 where 2 were paid; 2 of 1 pay 2 where 1 was paid
   pub paid-short : ShareLaw 2 2 0 (1 ∷ []) → ⊥
   pub paid-over : ShareLaw 1 1 0 (2 ∷ []) → ⊥

@@ -9,7 +9,7 @@ use Rattle.units.specs.Sums.{sumOver}
 use Rattle.pricing.specs.declared.Side.{Side}
 use Rattle.pricing.specs.declared.Side.the-variants.{Buy, Sell}
 use Rattle.pricing.specs.declared.Trade.{Trade}
-use Rattle.pricing.specs.Prices.{offLimit, tradeWithin, auctionPrice, sharePaid, shareGot, fetches}
+use Rattle.pricing.specs.Prices.{offLimit, matchBase, tradeWithin, auctionPrice, sharePaid, shareGot, fetches}
 
 -- from a to b as a side's price moves: the buys' rises, the sells' falls
 abbrev pub Moves : Side → ℕ → ℕ → Type 0
@@ -48,7 +48,13 @@ PricesWithin =
 
 -- what a match trades fits both sides and both bounds
 abbrev pub TradesFit : Type 0
-TradesFit = (q s r hi lo : ℕ) → lo ≤ r → TradeFits q s lo hi (tradeWithin q s r hi)
+TradesFit = (q s r hi lo : ℕ) → lo ≤ r → r ≤ hi → TradeFits q s lo hi (tradeWithin q s r hi lo)
+
+-- L4, "only otherwise are m and c 0": where m is above 0 and the match is dropped, no whole c keeps both bounds
+abbrev pub DropsOnly : Type 0
+DropsOnly =
+    (q s r hi lo c : ℕ) → 1 ≤ lo → 0 < matchBase q s r → tradeWithin q s r hi lo .base .0 ≡ 0 → c * million ≤ hi * matchBase q s r
+    → c * million < lo * matchBase q s r
 
 -- "Find the share's law once for all sides and tokens": offers of any side whose sum is its total T
 abbrev pub SharesHold : Type 0

@@ -1,7 +1,7 @@
--- The numbers of document 01's calls open, match, bid and claim. A price counts millionths of a quote unit per base unit.
-use mathlib.Core.Bool.{Bool, cond}
+-- The numbers of document 01's calls open, match, bid and claim, and of document 02's L4 on match. A price counts millionths of a quote unit per base unit.
+use mathlib.Core.Bool.{Bool, cond, _&&_}
 use Prim.Native.Nat.{ℕ, _+_, _-_, _*_, min}
-use lib.Dec.{ltb}
+use lib.Dec.{leb, ltb}
 use Rattle.units.specs.Counts.{amount, million}
 use Rattle.units.specs.Rounding.{down, up}
 use Rattle.pricing.specs.declared.Side.{Side}
@@ -39,12 +39,21 @@ matchQuote m r = up (m * r) million
 abbrev pub trade : ℕ → ℕ → Trade
 trade m c = record { base = amount m; quote = amount c }
 
--- "Where c×1,000,000 > hi×m, m and c become 0"
-abbrev pub tradeOr : ℕ → ℕ → ℕ → Trade
-tradeOr hi m c = cond (ltb (hi * m) (c * million)) (trade 0 0) (trade m c)
+-- L4: "c is rounded down instead"
+unfoldable pub lowerQuote : ℕ → ℕ → ℕ
+lowerQuote m r = down (m * r) million
 
-unfoldable pub tradeWithin : ℕ → ℕ → ℕ → ℕ → Trade
-tradeWithin q s r hi = tradeOr hi (matchBase q s r) (matchQuote (matchBase q s r) r)
+-- L4: "and kept when c is at least 1 and c×1,000,000 ≥ lo×m; only otherwise are m and c 0"
+abbrev pub lowerTrade : ℕ → ℕ → ℕ → Trade
+lowerTrade lo m c = cond (leb 1 c && leb (lo * m) (c * million)) (trade m c) (trade 0 0)
+
+-- "Where c×1,000,000 > hi×m", or in L4's words "Where c rounded up breaks hi": what is traded for c rounded up, and for d, rounded down
+abbrev pub tradeOr : ℕ → ℕ → ℕ → ℕ → ℕ → Trade
+tradeOr hi lo m c d = cond (ltb (hi * m) (c * million)) (lowerTrade lo m d) (trade m c)
+
+unfoldable pub tradeWithin : ℕ → ℕ → ℕ → ℕ → ℕ → Trade
+tradeWithin q s r hi lo =
+    tradeOr hi lo (matchBase q s r) (matchQuote (matchBase q s r) r) (lowerQuote (matchBase q s r) r)
 
 -- ---- 8 bid
 

@@ -1,13 +1,14 @@
 // Prices and shares of a round: bounds, the trade within, auction prices, quotes, and a ticket's share.
 ghost use mathlib.Core.Path.{_≡_};
 ghost use Prim.Native.Nat.{_*_, _≤_, min};
-ghost use lib.Dec.{eqb, ltb};
+ghost use lib.Dec.{eqb, leb, ltb};
 ghost use Rattle.units.specs.Ranges.{highestReference, highestSlack};
 ghost use Rattle.units.specs.Counts.{price, largest, million};
 ghost use Rattle.units.specs.Rounding.{down, up};
 ghost use Rattle.pricing.specs.Prices.{
   highBound,
   lowBound,
+  lowerTrade,
   tradeWithin,
   auctionPrice,
   quoteFor,
@@ -132,18 +133,40 @@ fn dearer(quote: Amount, base: Amount, p: Price) -> bool
     product(p.0, base.0) < product(quote.0, MILLION)
 }
 
-// What buys of q quote and sells of s base trade at the reference price.
-pub fn trade_within(q: Amount, s: Amount, reference: Price, hi: Price) -> Trade
+// Whether quote for base is at a price or above it.
+fn reaches(quote: Amount, base: Amount, p: Price) -> bool
+    ensures { λ b. ⌜ b ≡ leb (p .0 * base .0) (quote .0 * million) ⌝ }
+{
+    product(p.0, base.0) <= product(quote.0, MILLION)
+}
+
+// What is traded for the quote rounded down: nothing where it is 0 or below lo.
+fn lower_trade(base: Amount, quote: Amount, lo: Price) -> Trade
+    ensures { λ t. ⌜ t ≡ lowerTrade (lo .0) (base .0) (quote .0) ⌝ }
+{
+    let none = Trade {
+        base: Amount(0),
+        quote: Amount(0),
+    };
+    if quote.0 < 1 {
+        return none;
+    }
+    if reaches(quote, base, lo) {
+        return Trade { base, quote };
+    }
+    none
+}
+
+// What buys of q quote and sells of s base trade at the reference price, rounded to keep hi and lo.
+pub fn trade_within(q: Amount, s: Amount, reference: Price, hi: Price, lo: Price) -> Trade
     requires { ⌜ 1 ≤ reference .0 ⌝ }
-    ensures { λ t. ⌜ t ≡ tradeWithin (q .0) (s .0) (reference .0) (hi .0) ⌝ }
+    ensures { λ t. ⌜ t ≡ tradeWithin (q .0) (s .0) (reference .0) (hi .0) (lo .0) ⌝ }
 {
     let base = base_within(q, reference, s);
     let quote = quote_up(base, reference).to_amount();
     if dearer(quote, base, hi) {
-        return Trade {
-            base: Amount(0),
-            quote: Amount(0),
-        };
+        let lower = quote_down(base, reference).to_amount();
+        return lower_trade(base, lower, lo);
     }
     Trade { base, quote }
 }

@@ -5,7 +5,7 @@ use mathlib.Core.Option.{Option}
 use Prim.Native.Nat.{ℕ}
 use Rattle.fields.specs.Examples.{longLines}
 use Rattle.replay.specs.Days.{dayOf}
-use Rattle.replay.specs.Examples.{paperInput, paperOutput, fieldsInput, fieldsOutput, smallDays, longDays, longTexts}
+use Rattle.replay.specs.Examples.{paperInput, paperOutput, fieldsInput, fieldsOutput, loweredInput, loweredOutput, smallDays, longDays, longTexts}
 use Rattle.replay.proofs.Computing.{day-computes}
 
 pub paper-day : dayOf paperInput ≡ paperOutput
@@ -15,6 +15,10 @@ paper-day = refl
 pub fields-day : dayOf fieldsInput ≡ fieldsOutput
 unfolding fieldsInput fieldsOutput day-computes
 fields-day = refl
+
+pub lowered-day : dayOf loweredInput ≡ loweredOutput
+unfolding loweredInput loweredOutput day-computes
+lowered-day = refl
 
 pub small-days : map (λ (e : List ℕ × List ℕ). dayOf (e .0)) smallDays ≡ map (λ (e : List ℕ × List ℕ). e .1) smallDays
 unfolding smallDays day-computes

@@ -111,7 +111,7 @@ fn match_collected(market: Market, last: Block, block: Block, r: Round) -> Moved
     }
     let q = r.buys.total;
     let s = r.sells.total;
-    let t = trade_within(q, s, r.reference, r.hi);
+    let t = trade_within(q, s, r.reference, r.hi, r.lo);
     let base = t.base;
     let quote = t.quote;
     let bought = Totals {

@@ -114,7 +114,7 @@ module _ (x : Exchange) (b : Bounded x) where
       let r : Round = roundIn (phase x mk) in
       let ep : phase x mk ≡ Collect r = collect-is (phase x mk) (not-false (isCollect (phase x mk)) (p .1 .0)) in
       let rb : RoundBounds r = subst PhaseBounds ep (b .phase-bounds mk (omega (arith, r3)) (omega (arith, r3))) .0 in
-      let f = trade-fits (r .buys .total .0) (r .sells .total .0) (r .reference .0) (r .hi .0) (r .lo .0) (rb .terms .order-low) in
+      let f = trade-fits (r .buys .total .0) (r .sells .total .0) (r .reference .0) (r .hi .0) (r .lo .0) (rb .terms .order-low) (rb .terms .order-high) in
       record { first = omega (arith, f .base-fits, rb .total Sell); second = omega (arith, f .quote-fits, rb .total Buy) }
   done-small (Call.Bid mk m at sd n bound) p =
       let hm = ltb-false 15 m (p .0) in

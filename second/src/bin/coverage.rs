@@ -7,7 +7,7 @@
 
 use second::engine::{bid_quote, MARKETS, MILLION, MOST, TICKETS};
 use second::lines::{CODES, FIELDS, KINDS, LINE_MOST, NO_CALL};
-use second::{books, read_call, Answer, Call, Exchange, Phase, Place};
+use second::{books, read_call, Answer, Call, Exchange, Market, Phase, Place};
 use std::collections::BTreeMap;
 use std::io::{self, BufRead, BufReader, Write};
 use std::process::ExitCode;
@@ -95,6 +95,17 @@ const BORDERS: &[&str] = &[
     "match: 4 blocks after open",
     "match: 3 blocks after open refused",
     "match: dropped",
+    "match: dropped, lower rounding 0",
+    "match: dropped, lo just missed",
+    "match: dropped, lo as hi",
+    "match: both roundings break",
+    "match: lower rounding kept",
+    "match: lower rounding kept, lo just met",
+    "match: lower rounding kept, hi just broken",
+    "match: lower rounding kept, some base left",
+    "match: lower rounding kept, base above 1000",
+    "match: lower rounding kept, limits at hi and lo",
+    "match: c rounded up just hi",
     "match: three or more tickets each side",
     "match: above 2000000000",
     "match: after the last ticket left",
@@ -121,6 +132,7 @@ const BORDERS: &[&str] = &[
     "bid: side 1 cost above the most refused",
     "bid: maker owns a ticket in the round",
     "bid: both sides in one round",
+    "bid: after a lower rounding",
     "settle: k L with some left refused",
     "settle: k L + 1 with some left",
     "settle: nothing left before the end",
@@ -135,6 +147,7 @@ const BORDERS: &[&str] = &[
     "claim: last of its round",
     "claim: last, quote to the tray",
     "claim: last, base to the tray",
+    "claim: last, after a lower rounding",
     "leave: side 0",
     "leave: side 1",
     "leave: others stay on the side",
@@ -174,6 +187,8 @@ struct Counts {
     rests: u64,
     /// By market, the sides that makers took in this round.
     bids: [[bool; 2]; MARKETS],
+    /// By market, whether the match of this round kept the lower rounding.
+    lowered: [bool; MARKETS],
     /// Rounds begun so far, and by market the number of its round.
     rounds: u64,
     round_of: [u64; MARKETS],
@@ -190,6 +205,7 @@ impl Counts {
             borders: BTreeMap::new(),
             rests: 0,
             bids: [[false; 2]; MARKETS],
+            lowered: [false; MARKETS],
             rounds: 0,
             round_of: [0; MARKETS],
             left: [0; TICKETS],
@@ -272,6 +288,39 @@ impl Counts {
         self.add_if(code == 0 && ticket == 0, "ticket 0 taken");
         self.add_if(code == 0 && ticket == 63, "ticket 63 taken");
         self.add_if(code == 4 && ticket == 64, "ticket 64 refused");
+    }
+
+    /// How an accepted match rounded, from the round before it: whether it kept
+    /// the lower rounding.
+    fn rounding(&mut self, round: &Market, answer: Answer) -> bool {
+        let [buys, sells] = round.halves;
+        let base = sells.total.min(buys.total * MILLION / round.reference);
+        let dropped = base > 0 && answer.first == 0;
+        self.add_if(dropped, "match: dropped");
+        // In millionths of quote: what the base comes to at the reference, the
+        // whole quotes below and above it, and the bounds.
+        let worth = base * round.reference;
+        let down = worth / MILLION * MILLION;
+        let up = down + MILLION;
+        let [hi, lo] = [round.hi, round.lo].map(|price| price * base);
+        let exact = worth == down;
+        self.add_if(!exact && up == hi, "match: c rounded up just hi");
+        if exact || up <= hi {
+            return false;
+        }
+        if dropped {
+            self.add_if(down == 0, "match: dropped, lower rounding 0");
+            self.add_if(down > 0, "match: both roundings break");
+            self.add_if(down > 0 && down + base >= lo, "match: dropped, lo just missed");
+            self.add_if(lo == hi, "match: dropped, lo as hi");
+            return false;
+        }
+        self.add_if(true, "match: lower rounding kept");
+        self.add_if(down == lo, "match: lower rounding kept, lo just met");
+        self.add_if(up <= hi + base, "match: lower rounding kept, hi just broken");
+        self.add_if(base < sells.total, "match: lower rounding kept, some base left");
+        self.add_if(base > 1_000, "match: lower rounding kept, base above 1000");
+        true
     }
 
     /// Looks at a call, its answer, and the exchange before and after it.
@@ -405,15 +454,20 @@ impl Counts {
                     self.add_if(since == 4, "match: 4 blocks after open");
                     self.add_if(since == 3, "match: 3 blocks after open refused");
                     if taken {
-                        let [buys, sells] = round.halves;
-                        let base = sells.total.min(buys.total * MILLION / round.reference);
-                        self.add_if(base > 0 && answer.first == 0, "match: dropped");
                         let mut tickets = [0; 2];
+                        let mut at_bound = [false; 2];
                         for (place, held) in was.tickets().iter().enumerate() {
                             if round.marks >> place & 1 == 1 {
-                                tickets[held.side as usize] += 1;
+                                let side = held.side as usize;
+                                tickets[side] += 1;
+                                at_bound[side] |=
+                                    u64::from(held.limit) == [round.hi, round.lo][side];
                             }
                         }
+                        let lowered = self.rounding(&round, answer);
+                        self.lowered[market as usize - 1] = lowered;
+                        let tight = lowered && at_bound == [true; 2];
+                        self.add_if(tight, "match: lower rounding kept, limits at hi and lo");
                         let many = tickets[0] >= 3 && tickets[1] >= 3;
                         self.add_if(many, "match: three or more tickets each side");
                         let large = answer.first > 2_000_000_000 && answer.second > 2_000_000_000;
@@ -483,6 +537,8 @@ impl Counts {
                         held.place == Place::Round && held.market == market && held.member == member
                     });
                     self.add_if(owns, "bid: maker owns a ticket in the round");
+                    let lowered = self.lowered[market as usize - 1];
+                    self.add_if(lowered, "bid: after a lower rounding");
                     self.bids[market as usize - 1][side as usize] = true;
                 }
             }
@@ -532,6 +588,7 @@ impl Counts {
                     self.add_if(true, "claim: last of its round");
                     self.add_if(quote > 0, "claim: last, quote to the tray");
                     self.add_if(base > 0, "claim: last, base to the tray");
+                    self.add_if(self.lowered[place], "claim: last, after a lower rounding");
                 }
             }
             Call::Leave { ticket, member } => {

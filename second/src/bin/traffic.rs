@@ -1,10 +1,10 @@
 //! Prints traffic for comparison runs: `traffic SEED LINES` prints LINES
 //! lines, the same ones for the same seed. About half of them are accepted
-//! calls that drive whole rounds in the three markets; the others are calls
-//! to be refused, for every kind and code, and lines that are no call, of
-//! every sort. The exchange is worked along, so that each line can be aimed
-//! at its state. `traffic SEED LINES FILE` prints traffic that is to follow
-//! the lines of a file.
+//! calls that drive whole rounds in the three markets, some of them small ones
+//! whose match is rounded at a border; the others are calls to be refused, for
+//! every kind and code, and lines that are no call, of every sort. The exchange
+//! is worked along, so that each line can be aimed at its state. `traffic SEED
+//! LINES FILE` prints traffic that is to follow the lines of a file.
 
 use second::chance::Chance;
 use second::engine::{bid_quote, MILLION, MOST};
@@ -88,6 +88,39 @@ enum Season {
     Huge,
 }
 
+/// What the match of a small round comes to. Its worth at the reference lies
+/// between two whole quotes.
+#[derive(Clone, Copy, PartialEq)]
+enum Aim {
+    /// The lower one, with lo just met.
+    LoMet,
+    /// The lower one.
+    Lower,
+    /// The lower one, with hi just broken by the upper one.
+    HiBroken,
+    /// The upper one, with hi just met.
+    HiMet,
+    /// Nothing, with lo just missed.
+    LoMissed,
+    /// Nothing: both break their bounds.
+    Neither,
+    /// Nothing: the lower one is 0.
+    NoQuote,
+}
+
+/// The aims, which take turns.
+const AIMS: [Aim; 7] =
+    [Aim::LoMet, Aim::LoMissed, Aim::Lower, Aim::Neither, Aim::HiBroken, Aim::HiMet, Aim::NoQuote];
+
+/// The terms of a small round: the base matched, the quote that it comes to
+/// rounded up, reference and slack.
+struct Terms {
+    base: u64,
+    up: u64,
+    reference: u64,
+    slack: u64,
+}
+
 struct Traffic<W: Write> {
     chance: Chance,
     exchange: Exchange,
@@ -105,6 +138,8 @@ struct Traffic<W: Write> {
     long_at: u64,
     /// The next sort of line that is no call.
     sort: usize,
+    /// Small rounds so far.
+    small_rounds: usize,
     season: Season,
     /// Seasons begun so far; they take turns.
     seasons: usize,
@@ -136,6 +171,7 @@ impl<W: Write> Traffic<W> {
             seasons: chance.below(6) as usize,
             long_at: lines.saturating_sub(chance.below(10_000)),
             sort: chance.below(SORTS as u64) as usize,
+            small_rounds: chance.below(AIMS.len() as u64) as usize,
             chance,
             refusals,
             exchange,
@@ -251,6 +287,12 @@ impl<W: Write> Traffic<W> {
         self.last().max(u64::from(self.market(market).opened) + 4)
     }
 
+    /// The tickets in a market's round.
+    fn marked(&self, market: u64) -> Vec<u64> {
+        let marks = self.market(market).marks;
+        (0..64).filter(|i| marks >> i & 1 == 1).collect()
+    }
+
     /// Any member but this one.
     fn other_member(&mut self, member: u64) -> u64 {
         (member + self.chance.between(1, 15)) % 16
@@ -324,17 +366,15 @@ impl<W: Write> Traffic<W> {
         if opened + 100 > MOST {
             return;
         }
-        let tokens = [0, market];
         let mut tickets = [0; 2];
         for side in [0, 1] {
-            let room = self.room(tokens[side as usize]);
-            let free = self.find_ticket(|_, t| t.place == Place::Free);
-            let (Some(ticket), true) = (free, room > MOST / 2) else { return };
-            let member = self.chance.below(16);
+            let room = self.room(if side == 0 { 0 } else { market });
+            if room <= MOST / 2 {
+                return;
+            }
             let amount = room - self.chance.pick(&[0, 0, 1, 2, 1_000]);
             let limit = if side == 0 { 2_000_000_000 } else { 1 };
-            self.say(Draft::new(1, &[member, tokens[side as usize], amount]));
-            self.say(Draft::new(3, &[ticket, member, market, side, limit, amount]));
+            let Some(ticket) = self.place_order(market, side, limit, amount) else { return };
             tickets[side as usize] = ticket;
         }
         let reference = self.chance.pick(&[1_000_000, 999_999, 1_000_001, 1_000_000_000, 1]);
@@ -349,16 +389,131 @@ impl<W: Write> Traffic<W> {
         self.say(Draft::new(7, &[market, opened + 4]));
         // A cost that no bound can cover, if the price is high enough.
         self.say(Draft::new(8, &[market, 3, opened + 4, 1, MOST - 1_000, MOST]));
-        for _ in 0..3 {
+        self.end_auction(market, 3);
+    }
+
+    /// Places an order, after a deposit if no member has the amount, and gives
+    /// its ticket.
+    fn place_order(&mut self, market: u64, side: u64, limit: u64, amount: u64) -> Option<u64> {
+        let token = if side == 0 { 0 } else { market };
+        let ticket = self.find_ticket(|_, t| t.place == Place::Free)?;
+        let member = match self.find_member(token, amount) {
+            Some(member) => member,
+            None if amount > self.room(token) => return None,
+            None => {
+                let member = self.chance.below(16);
+                self.say(Draft::new(1, &[member, token, amount]));
+                member
+            }
+        };
+        self.say(Draft::new(3, &[ticket, member, market, side, limit, amount]));
+        Some(ticket)
+    }
+
+    /// Up to so many bids, then the settle after the auction's end and the
+    /// claims.
+    fn end_auction(&mut self, market: u64, bids: u64) {
+        for _ in 0..bids {
             if let Some(draft) = self.bid_draft(market) {
                 self.say(draft);
             }
         }
-        let end = self.last().max(opened + 4 + length + 1);
-        self.say(Draft::new(9, &[market, end]));
-        for ticket in tickets {
+        let round = self.market(market);
+        let end = u64::from(round.start) + u64::from(round.length);
+        self.say(Draft::new(9, &[market, self.last().max(end + 1)]));
+        for ticket in self.marked(market) {
             self.say(Draft::new(10, &[ticket]));
         }
+    }
+
+    /// A round of few tickets whose match is aimed at a border of its rounding;
+    /// half of these rounds come to their end at once. Nothing if blocks,
+    /// tickets or amounts are wanting.
+    fn small_round(&mut self, market: u64) -> Option<()> {
+        let block = self.last() + self.some_blocks();
+        if block + 100 > MOST {
+            return None;
+        }
+        let aim = AIMS[self.small_rounds % AIMS.len()];
+        self.small_rounds += 1;
+        let terms = self.small_terms(aim);
+        let length = self.length();
+        self.say(Draft::new(5, &[market, block, terms.reference, terms.slack, length]));
+        let Market { hi, lo, .. } = self.market(market);
+        let [buys, sells] = self.small_totals(&terms);
+        for (side, total, edge, wide) in [(0, buys, hi, 2_000_000_000), (1, sells, lo, 1)] {
+            for amount in self.parts(total) {
+                let limit = self.chance.pick(&[edge, edge, wide]);
+                let ticket = self.place_order(market, side, limit, amount)?;
+                self.say(Draft::new(6, &[ticket]));
+            }
+        }
+        let block = self.match_block(market) + self.some_blocks();
+        self.say(Draft::new(7, &[market, block]));
+        if self.chance.once_in(2) {
+            self.end_auction(market, 1);
+        }
+        Some(())
+    }
+
+    /// Terms at which a match comes to the aim, but for some where a bound is
+    /// rounded past it.
+    fn small_terms(&mut self, aim: Aim) -> Terms {
+        let c = &mut self.chance;
+        // Where the base divides a million, a bound can be just a whole quote
+        // for it.
+        let base = if c.once_in(4) {
+            c.pick(&[10, 200, 5_000, 100_000])
+        } else if matches!(aim, Aim::LoMet | Aim::HiMet) {
+            c.pick(&[1, 1, 2, 4, 5, 8])
+        } else {
+            c.between(1, 9)
+        };
+        let down = if aim == Aim::NoQuote { 0 } else { c.any_size((999 * base).min(400_000)) };
+        let up = down + 1;
+        let down_price = down * MILLION / base;
+        let up_price = (up * MILLION).div_ceil(base);
+        // Up to this slack no reference has both quotes within its bounds.
+        let apart = ((MILLION - 1) / (down + up)).min(500_000);
+        // From this slack on the bounds are apart from the reference.
+        let some = if down == 0 { 0 } else { base.div_ceil(down) };
+        let narrow = c.between(some, apart);
+        let wide = c.between(apart + 1, MILLION / up).min(500_000);
+        let (reference, slack) = match aim {
+            Aim::LoMet => (reference_at_lo(down_price, narrow), narrow),
+            Aim::Lower => (reference_at_lo(down_price, narrow), c.between(narrow, apart)),
+            Aim::LoMissed => (reference_at_lo(down_price + 1, narrow), narrow),
+            Aim::HiBroken => (reference_at_hi(up_price - 1, wide), wide),
+            Aim::HiMet => {
+                let slack = c.pick(&[narrow, wide]);
+                (reference_at_hi(up_price, slack), slack)
+            }
+            Aim::Neither | Aim::NoQuote => {
+                (reference_at_hi(up_price - 1, narrow), c.pick(&[0, narrow / 2, narrow]))
+            }
+        };
+        Terms { base, up, reference, slack }
+    }
+
+    /// Totals of the buys and the sells whose match has the terms' base: of all
+    /// sells or, where the quote fetches no more base, for all buys.
+    fn small_totals(&mut self, terms: &Terms) -> [u64; 2] {
+        let more = self.chance.below(30);
+        let fetched = terms.up * MILLION / terms.reference;
+        if fetched == terms.base && self.chance.once_in(2) {
+            [terms.up, terms.base + more]
+        } else {
+            [terms.up + more, terms.base]
+        }
+    }
+
+    /// An amount as one part or two.
+    fn parts(&mut self, amount: u64) -> Vec<u64> {
+        if amount == 1 || !self.chance.once_in(3) {
+            return vec![amount];
+        }
+        let part = self.chance.between(1, amount - 1);
+        vec![part, amount - part]
     }
 
     fn amount(&mut self) -> u64 {
@@ -647,7 +802,11 @@ impl<W: Write> Traffic<W> {
             return;
         }
         let market = self.chance.pick(&self.markets);
-        let kinds: &[usize] = match self.market(market).phase {
+        let phase = self.market(market).phase;
+        if phase == Phase::Closed && self.chance.once_in(10) && self.small_round(market).is_some() {
+            return;
+        }
+        let kinds: &[usize] = match phase {
             Phase::Closed => &[1, 1, 2, 3, 3, 3, 4, 5, 5, 5, 10],
             // It can never be matched, but it can be left.
             Phase::Collect if self.match_block(market) > MOST => &[1, 3, 3, 6, 6, 6, 11, 11],
@@ -885,8 +1044,7 @@ impl<W: Write> Traffic<W> {
                 })?;
                 let market = self.market_of(few);
                 let block = self.match_block(market);
-                let marks = self.market(market).marks;
-                let marked: Vec<u64> = (0..64).filter(|i| marks >> i & 1 == 1).collect();
+                let marked = self.marked(market);
                 for &ticket in &marked {
                     self.say(Draft::new(11, &[ticket, self.owner(ticket)]));
                 }
@@ -1645,6 +1803,16 @@ impl<W: Write> Traffic<W> {
         }
         numbers.join(",").into_bytes()
     }
+}
+
+/// The highest reference at which lo is this price.
+fn reference_at_lo(price: u64, slack: u64) -> u64 {
+    price * MILLION / (MILLION - slack)
+}
+
+/// The lowest reference at which hi is this price or more.
+fn reference_at_hi(price: u64, slack: u64) -> u64 {
+    (price * MILLION).div_ceil(MILLION + slack)
 }
 
 /// A byte that is no digit, no comma and no line end.
