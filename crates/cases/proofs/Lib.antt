@@ -2,6 +2,7 @@ pub mod Examples
 pub mod Pasts
 pub mod KindCases
 pub mod ClosingCases
+pub mod MatchCases
 pub mod BoundCases
 pub mod StateCases
 pub mod HistoryCases

@@ -3,6 +3,7 @@ pub mod Examples
 pub mod Pasts
 pub mod KindCases
 pub mod ClosingCases
+pub mod MatchCases
 pub mod Fixes
 pub mod ClauseCases
 pub mod BoundCases

@@ -23,3 +23,4 @@ pub mod ReachClock
 pub mod ReachBounds
 pub mod WindUp
 pub mod EnterLeave
+pub mod Matching

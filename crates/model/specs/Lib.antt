@@ -9,6 +9,7 @@ pub mod History
 pub mod WholeRun
 pub mod Closing
 pub mod EnterLeave
+pub mod Matching
 pub mod Bounds
 pub mod Scripts
 pub mod Day

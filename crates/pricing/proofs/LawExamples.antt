@@ -6,11 +6,11 @@ use native.Mathlib.Omega.{arith}
 use Rattle.units.specs.Rounding.{down, up}
 use Rattle.units.specs.Sums.{sumOver}
 use Rattle.pricing.specs.declared.Side.the-variants.{Buy, Sell}
-use Rattle.pricing.specs.Prices.{lowerQuote, matchBase, matchQuote, tradeWithin, sharePaid, shareGot}
+use Rattle.pricing.specs.Prices.{highBound, lowBound, lowerQuote, matchBase, matchQuote, tradeWithin, sharePaid, shareGot}
 use Rattle.pricing.specs.LawExamples.{threeOffers, LawsUsed, LawsMet, LawsRefused}
 
 pub laws-used : LawsUsed
-unfolding sumOver tradeWithin matchBase matchQuote lowerQuote down up
+unfolding sumOver highBound lowBound tradeWithin matchBase matchQuote lowerQuote down up
 laws-used =
     record {
       buys-rise = λ a b m. m;
@@ -34,9 +34,12 @@ laws-used =
       trades-at-lo = λ w q s hi l. w q s 2500000 hi 2500000 (omega arith) l;
       trades-at-hi = λ w q s lo l. w q s 2500000 2500000 lo l (omega arith);
       trades-exact = λ w q s r. let f = w q s r r r (omega arith) (omega arith) in omega (arith, f .not-above, f .not-below);
-      drops-three = λ w c l. w 100 3 2500000 2500000 2500000 c (omega arith) (omega arith) refl l;
-      drops-low = λ w c l. w 1000 1 2400000 2799998 2000002 c (omega arith) (omega arith) refl l;
-      drops-least = λ w c l. w 1000 1 600000 900000 1 c (omega arith) (omega arith) refl l;
+      upper-any = λ w q s lo l. w q s 2400000 3000000 lo l;
+      no-slack-any = λ w q s l. w q s 2500000 l;
+      drops-any = λ w q s c e p l. w q s 2100000 2310000 1890000 c e p l;
+      drops-three = λ w c p l. w 100 3 2500000 2500000 2500000 c refl p l;
+      near-tenth = λ w q s. w q s 2100000 100000 (omega arith);
+      near-all = λ w q s. w q s 2100000 1000000 (omega arith);
       shares-three = λ w P G. w 301 P G threeOffers (omega arith) refl;
       shares-one = λ w P G. w 1 P G (1 ∷ []) (omega arith) refl;
       buy-limit = λ w o P G T p r. w Buy 2750000 2750000 2250000 o P G T p (omega arith) refl r;

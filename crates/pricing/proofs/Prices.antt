@@ -1,6 +1,6 @@
 -- Laws of a round's bounds and of the auction's prices.
 use Prim.Native.Nat.{_*_, _+_, _-_, _<_, _≤_, suc, zero, ℕ}
-use mathlib.Core.Path.{_≡_, refl}
+use mathlib.Core.Path.{_≡_, ap, refl}
 use native.Mathlib.Nat.{le-antisymm, le-of-mul-le-mul-left, mul-le-mul, mul-le-mul-left, mul-zero, zero-mul}
 use native.Mathlib.Omega.{arith}
 use lib.Dec.{lit<}
@@ -11,7 +11,7 @@ use Rattle.pricing.specs.declared.Side.{Side}
 use Rattle.pricing.specs.declared.Side.the-variants.{Buy, Sell}
 use Rattle.units.specs.Counts.{million}
 use Rattle.units.specs.Rounding.{down}
-use Rattle.units.proofs.Rounding.{down-low, down-mono, le-down, part-down-le, part-up-le, up-low, whole-down}
+use Rattle.units.proofs.Rounding.{down-high, down-low, down-mono, le-down, part-down-le, part-up-le, up-high, up-low, whole-down}
 
 -- a million is not 0
 pub million-pos : 0 < million
@@ -34,6 +34,21 @@ low-le r w = part-up-le r (million - w) million million-pos (omega arith)
 pub le-high : (r w : ℕ) → r ≤ highBound r w
 unfolding highBound
 le-high r w = le-down (r * (million + w)) million r million-pos (omega arith)
+
+-- both bounds lie equally far from the reference price
+pub bounds-even : (r w : ℕ) → w ≤ million → highBound r w + lowBound r w ≡ r + r
+unfolding highBound lowBound
+bounds-even r w h =
+    let e : w + (million - w) ≡ million = omega (arith, h) in
+    let m : r * w + r * (million - w) ≡ r * million = omega (arith, ap (λ (x : ℕ). r * x) e) in
+    omega (
+      arith,
+      m,
+      down-low (r * (million + w)) million,
+      down-high (r * (million + w)) million million-pos,
+      up-low (r * (million - w)) million million-pos,
+      up-high (r * (million - w)) million million-pos,
+    )
 
 -- the high bound of any reference price and slack that open takes
 pub high-le : (r w : ℕ) → r ≤ highestReference → w ≤ highestSlack → highBound r w ≤ highestBound

@@ -1,17 +1,17 @@
 -- Laws of match: what buys and sells trade fits both sides and keeps both bounds, and is dropped only where no whole quote does.
-use Prim.Native.Nat.{_*_, _<_, _≤_, min, suc, zero, ℕ}
+use Prim.Native.Nat.{_*_, _+_, _<_, _≤_, min, ℕ}
 use mathlib.Core.Bool.{Bool, cond, false, true, _&&_}
-use mathlib.Core.Path.{_≡_, refl}
+use mathlib.Core.Path.{_≡_, ap, refl}
 use native.Mathlib.Nat.{mul-le-mul-left, mul-le-mul-right}
 use native.Mathlib.Omega.{arith}
-use borrow.Author.Tests.{leb-false, leb-true, ltb-false, ltb-true}
-use Rattle.pricing.specs.Laws.{DropsOnly, TradeFits, TradesFit}
-use Rattle.pricing.specs.Prices.{lowerQuote, matchBase, matchQuote, trade, tradeOr, tradeWithin}
+use borrow.Author.Tests.{le-ltb, leb-false, leb-true, ltb-false, ltb-true}
+use Rattle.pricing.specs.Laws.{DropsOnly, NoSlack, QuotesNear, TradeFits, TradesFit, UpperKept}
+use Rattle.pricing.specs.Prices.{highBound, lowBound, lowerQuote, matchBase, matchQuote, trade, tradeOr, tradeWithin}
 use Rattle.pricing.specs.declared.Trade.{Trade}
 use Rattle.units.specs.Counts.{million}
 use Rattle.units.specs.Rounding.{down}
-use Rattle.pricing.proofs.Prices.{million-pos}
-use Rattle.units.proofs.Rounding.{down-low, le-down, up-high, up-le, up-low}
+use Rattle.pricing.proofs.Prices.{bounds-even, million-pos}
+use Rattle.units.proofs.Rounding.{down-high, down-low, le-down, up-high, up-le, up-low}
 
 -- the base of a match costs no more than the buys offer
 pub quote-le : (q s r : ℕ) → matchQuote (matchBase q s r) r ≤ q
@@ -30,7 +30,7 @@ lower-le m r = omega (arith, down-low (m * r) million, up-low (m * r) million mi
 -- holds of the trade
 by-rounding : (K : Trade → Type 0) (hi lo m c d : ℕ)
     → (c * million ≤ hi * m → K (trade m c))
-    → (lo * m ≤ d * million → K (trade m d))
+    → (hi * m < c * million → lo * m ≤ d * million → K (trade m d))
     → (hi * m < c * million → (1 ≤ d → d * million < lo * m) → K (trade 0 0))
     → K (tradeOr hi lo m c d)
 by-rounding K hi lo m c d upper lower none =
@@ -41,7 +41,7 @@ by-rounding K hi lo m c d upper lower none =
         → (kept : Bool) → (kept ≡ true → lo * m ≤ d * million) → (kept ≡ false → d * million < lo * m)
         → K (cond above (cond (some && kept) (trade m d) (trade 0 0)) (trade m c))
     go false a a′ u s s′ k k′ l = upper (a′ refl)
-    go true a a′ true s s′ true k k′ = lower (k refl)
+    go true a a′ true s s′ true k k′ = lower (a refl) (k refl)
     go true a a′ true s s′ false k k′ = none (a refl) (λ l. k′ refl)
     go true a a′ false s s′ u k k′ = none (a refl) (λ l. omega (arith, l, s′ refl))
 
@@ -56,13 +56,30 @@ trade-fits q s r hi lo h g =
       not-above = t;
       not-below = omega (arith, up-low (m * r) million million-pos, mul-le-mul-right m h);
     })
-    (λ t. record {
+    (λ a t. record {
       base-fits = omega arith;
       quote-fits = omega (arith, lower-le m r, quote-le q s r);
       not-above = omega (arith, down-low (m * r) million, mul-le-mul-right m g);
       not-below = t;
     })
     (λ a n. record { base-fits = omega arith; quote-fits = omega arith; not-above = omega arith; not-below = omega arith })
+  where
+    m : ℕ
+    m = matchBase q s r
+
+-- c rounded up is traded where it keeps hi
+pub upper-kept : UpperKept
+unfolding tradeWithin
+upper-kept q s r hi lo h = rw (le-ltb (hi * matchBase q s r) (matchQuote (matchBase q s r) r * million) h)
+
+-- without slack c rounded down is kept nowhere else: it would be exact, and so would c rounded up
+pub no-slack : NoSlack
+unfolding tradeWithin matchQuote lowerQuote
+no-slack q s r h =
+    by-rounding (λ t. t ≡ trade 0 0) r r m (matchQuote m r) (lowerQuote m r)
+    (λ t. absurd (let z : 1 ≤ 0 = omega (arith, t, h) in omega (arith, z)))
+    (λ a t. absurd (let z : 1 ≤ 0 = omega (arith, t, h, down-low (m * r) million, up-le (m * r) million (lowerQuote m r) million-pos (omega (arith, t))) in omega (arith, z)))
+    (λ a n. refl)
   where
     m : ℕ
     m = matchBase q s r
@@ -75,18 +92,47 @@ under-lower hi m r c a l = le-down (m * r) million c million-pos (omega (arith, 
 -- and it is dropped only where no whole quote keeps both bounds
 pub drops-only : DropsOnly
 unfolding tradeWithin
-drops-only q s r hi lo c pos some =
-    by-rounding (λ t. t .base .0 ≡ 0 → c * million ≤ hi * m → c * million < lo * m) hi lo m (matchQuote m r) (lowerQuote m r)
-    (λ t e l. omega (arith, some, e))
-    (λ t e l. omega (arith, some, e))
-    (λ a n e l. below c (under-lower hi m r c a l) n)
+drops-only q s r hi lo c e some keeps =
+    by-rounding (λ t. t .base .0 ≡ 0 → c * million < lo * m) hi lo m (matchQuote m r) (lowerQuote m r)
+    (λ t e. none e)
+    (λ a t e. none e)
+    (λ a n e. let l = under-lower hi m r c a keeps in omega (arith, l, n (omega (arith, l, some))))
+    e
   where
     m : ℕ
     m = matchBase q s r
 
-    below : (c : ℕ) → c ≤ lowerQuote m r → (1 ≤ lowerQuote m r → lowerQuote m r * million < lo * m) → c * million < lo * m
-    below zero l n = omega (arith, some, mul-le-mul-right m pos)
-    below (suc c) l n = omega (arith, l, n (omega (arith, l)))
+    -- no c is traded for no base
+    none : m ≡ 0 → c * million < lo * m
+    none e = omega (arith, some, rw e at keeps)
+
+-- all base that both sides could trade, or none
+pub traded-base : (q s r hi lo : ℕ) → 0 < tradeWithin q s r hi lo .base .0 → tradeWithin q s r hi lo .base .0 ≡ matchBase q s r
+unfolding tradeWithin
+traded-base q s r hi lo =
+    by-rounding (λ t. 0 < t .base .0 → t .base .0 ≡ m) hi lo m (matchQuote m r) (lowerQuote m r)
+    (λ t l. refl)
+    (λ a t l. refl)
+    (λ a n l. omega (arith, l))
+  where
+    m : ℕ
+    m = matchBase q s r
+
+-- its quote is less than a unit above what its base comes to at r, or less than half a unit below
+pub quotes-near : QuotesNear
+unfolding tradeWithin matchQuote lowerQuote
+quotes-near q s r w h =
+    by-rounding (λ t. (t .quote .0 * million < t .base .0 * r + million) × (2 * (t .base .0 * r) < 2 * (t .quote .0 * million) + million))
+    (highBound r w) (lowBound r w) m (matchQuote m r) (lowerQuote m r)
+    (λ t. (omega (arith, up-high (m * r) million million-pos), omega (arith, up-low (m * r) million million-pos)))
+    (λ a t. (
+      omega (arith, down-low (m * r) million),
+      omega (arith, a, t, ap (λ (x : ℕ). x * m) (bounds-even r w h), up-high (m * r) million million-pos, down-high (m * r) million million-pos),
+    ))
+    (λ a n. (omega arith, omega arith))
+  where
+    m : ℕ
+    m = matchBase q s r
 
 -- no quote is traded for no base, nor, where the low bound is not 0, base for no quote
 pub quote-some : (q s lo hi : ℕ) (t : Trade) → TradeFits q s lo hi t →

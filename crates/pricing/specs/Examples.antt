@@ -70,7 +70,7 @@ matchCases =
       matchQuote 240 2500000 ∷ matchQuote 3 2500000 ∷ matchQuote 4 2500000 ∷ matchQuote 1 1 ∷ matchQuote 0 5 ∷ [],
       600 ∷ 8 ∷ 10 ∷ 1 ∷ 0 ∷ [],
     )
-    -- "rounded down instead": the same
+    -- "rounded down instead": of the same five
     ∷ (
       lowerQuote 240 2500000 ∷ lowerQuote 3 2500000 ∷ lowerQuote 4 2500000 ∷ lowerQuote 1 1 ∷ lowerQuote 0 5 ∷ [],
       600 ∷ 7 ∷ 10 ∷ 0 ∷ 0 ∷ [],
@@ -80,7 +80,7 @@ matchCases =
 abbrev pub pair : Trade → List ℕ
 pair t = t .base .0 ∷ t .quote .0 ∷ []
 
--- what buys of q quote and sells of s base trade at reference price r and slack w
+-- at reference price r and slack w, what buys of q quote and sells of s base trade
 abbrev pub matched : ℕ → ℕ → ℕ → ℕ → List ℕ
 matched r w q s = pair (tradeWithin q s r (highBound r w) (lowBound r w))
 
@@ -98,23 +98,32 @@ tradeCases =
     -- three base come to 6.3: 7 are above 6.93, 6 not below 5.67; 7 quote fetch three base
     ∷ (matched 2100000 100000 1000 3, 3 ∷ 6 ∷ [])
     ∷ (matched 2100000 100000 7 100, 3 ∷ 6 ∷ [])
+    -- 2.4 for one base, where hi is 2.999997, and where it is just 3: rounded up wherever that keeps hi, though 2 is nearer and keeps lo
+    ∷ (matched 2400000 249999 1000 1, 1 ∷ 2 ∷ [])
+    ∷ (matched 2400000 250000 1000 1, 1 ∷ 3 ∷ [])
     -- "c×1,000,000 ≥ lo×m": 2 for one base, where lo is 2.000002, and where it is just 2
     ∷ (matched 2400000 166666 1000 1, 0 ∷ 0 ∷ [])
     ∷ (matched 2400000 166667 1000 1, 1 ∷ 2 ∷ [])
-    -- "c is at least 1": 1.000001 down is 1, 0.6 down is 0. That is below lo too, but for a lo of 0, which no round has
+    -- "c is at least 1": 1.000001 down is 1, 1.2 for two base too. 0.6 down is 0, and below lo as well: the test decides only at a lo of 0, which
+    -- no round has
     ∷ (matched 1000001 1 1000 1, 1 ∷ 1 ∷ [])
+    ∷ (matched 600000 500000 1000 2, 2 ∷ 1 ∷ [])
     ∷ (matched 600000 500000 1000 1, 0 ∷ 0 ∷ [])
     ∷ (pair (tradeWithin 1000 1 600000 900000 0), 0 ∷ 0 ∷ [])
-    -- rounded up where that keeps hi: 1.5 and 3.9. Rounded down the first would keep lo too, and the second would not
+    -- rounded up where that keeps hi: 1.5, which down would keep lo; 3.9, which would not; 7.5, where 8 quote fetch three base
     ∷ (matched 1500000 500000 9 1, 1 ∷ 2 ∷ [])
     ∷ (matched 1300000 100000 1000 3, 3 ∷ 4 ∷ [])
-    -- 7.5 for three base, with hi a millionth on either side of 8 / 3, and lo of 7 / 3
+    ∷ (matched 2500000 100000 8 100, 3 ∷ 8 ∷ [])
+    -- much base: 333,332.000001, and 333,333 are above hi by two millionths
+    ∷ (matched 333333 4 1000000 999997, 999997 ∷ 333332 ∷ [])
+    -- numbers that no round has, hi below r and lo 0: 5 quote fetch one base
+    ∷ (pair (tradeWithin 5 9 3000000 2000000 0), 1 ∷ 3 ∷ [])
+    -- 7.5 for three base, with hi on either side of 8 / 3, and lo of 7 / 3
     ∷ (pair (tradeWithin 100 3 2500000 2666667 2333333), 3 ∷ 8 ∷ [])
     ∷ (pair (tradeWithin 100 3 2500000 2666666 2333333), 3 ∷ 7 ∷ [])
     ∷ (pair (tradeWithin 100 3 2500000 2666666 2333334), 0 ∷ 0 ∷ [])
-    -- 1 for one base, where hi is a millionth less and where it is just that
+    -- 1 for one base, where hi is a millionth less
     ∷ (matched 999999 0 1 1, 0 ∷ 0 ∷ [])
-    ∷ (matched 1000000 0 1 1, 1 ∷ 1 ∷ [])
     -- nothing on a side
     ∷ (matched 2500000 100000 0 5, 0 ∷ 0 ∷ [])
     ∷ (matched 2500000 100000 5 0, 0 ∷ 0 ∷ [])

@@ -5,8 +5,8 @@ use mathlib.Core.List.{List, [], _∷_}
 use Rattle.pricing.specs.declared.Side.{Side}
 use Rattle.pricing.specs.declared.Side.the-variants.{Buy, Sell}
 use Rattle.pricing.specs.declared.Trade.{Trade}
-use Rattle.pricing.specs.Prices.{trade, tradeWithin, auctionPrice, sharePaid, shareGot, fetches}
-use Rattle.pricing.specs.Laws.{Moves, TradeFits, ShareLaw, Rate, PricesWithin, TradesFit, DropsOnly, SharesHold, LimitsHold}
+use Rattle.pricing.specs.Prices.{matchBase, matchQuote, trade, tradeWithin, auctionPrice, sharePaid, shareGot, fetches}
+use Rattle.pricing.specs.Laws.{Moves, TradeFits, ShareLaw, Rate, PricesWithin, TradesFit, UpperKept, NoSlack, DropsOnly, QuotesNear, SharesHold, LimitsHold}
 
 -- "Offers 100, 100, 101 (T 301)"
 abbrev pub threeOffers : List ℕ
@@ -40,16 +40,34 @@ pub record LawsUsed : Type 0 where
   pub prices-last : PricesWithin → (x : Side) (len : ℕ) → 0 < len → (93 ≤ auctionPrice x 100 93 len len) × (auctionPrice x 100 93 len len ≤ 100)
   pub prices-one : PricesWithin → (x : Side) (hi lo : ℕ) → lo ≤ hi → (lo ≤ auctionPrice x hi lo 1 1) × (auctionPrice x hi lo 1 1 ≤ hi)
   pub prices-same : PricesWithin → (x : Side) (k : ℕ) → k ≤ 64 → (5 ≤ auctionPrice x 5 5 k 64) × (auctionPrice x 5 5 k 64 ≤ 5)
-  -- what any two sides trade where lo is r, and where hi is
+  -- what any two sides trade where lo is r, and where hi is r
   pub trades-at-lo : TradesFit → (q s hi : ℕ) → 2500000 ≤ hi → TradeFits q s 2500000 hi (tradeWithin q s 2500000 hi 2500000)
   pub trades-at-hi : TradesFit → (q s lo : ℕ) → lo ≤ 2500000 → TradeFits q s lo 2500000 (tradeWithin q s 2500000 2500000 lo)
-  -- without slack a trade is exact, so that both roundings are one number
+  -- where both are r a trade is exact
   pub trades-exact :
       TradesFit → (q s r : ℕ) → tradeWithin q s r r r .quote .0 * 1000000 ≡ r * tradeWithin q s r r r .base .0
-  -- the marked edge; 2 for one base a little below lo; the least base and lo
-  pub drops-three : DropsOnly → (c : ℕ) → c * 1000000 ≤ 7500000 → c * 1000000 < 7500000
-  pub drops-low : DropsOnly → (c : ℕ) → c * 1000000 ≤ 2799998 → c * 1000000 < 2000002
-  pub drops-least : DropsOnly → (c : ℕ) → c * 1000000 ≤ 900000 → c * 1000000 < 1
+  -- at 2.4 with hi 3, whatever the sides and lo are
+  pub upper-any :
+      UpperKept → (q s lo : ℕ) → matchQuote (matchBase q s 2400000) 2400000 * 1000000 ≤ 3000000 * matchBase q s 2400000
+      → tradeWithin q s 2400000 3000000 lo ≡ trade (matchBase q s 2400000) (matchQuote (matchBase q s 2400000) 2400000)
+  -- at 2.5 without slack
+  pub no-slack-any :
+      NoSlack → (q s : ℕ) → 2500000 * matchBase q s 2500000 < matchQuote (matchBase q s 2500000) 2500000 * 1000000
+      → tradeWithin q s 2500000 2500000 2500000 ≡ trade 0 0
+  -- any two sides that trade nothing, at 2.1 between 1.89 and 2.31; and the marked edge, 100 quote and 3 base
+  pub drops-any :
+      DropsOnly → (q s c : ℕ) → tradeWithin q s 2100000 2310000 1890000 .base .0 ≡ 0 → 1 ≤ c
+      → c * 1000000 ≤ 2310000 * matchBase q s 2100000 → c * 1000000 < 1890000 * matchBase q s 2100000
+  pub drops-three : DropsOnly → (c : ℕ) → 1 ≤ c → c * 1000000 ≤ 2500000 * 3 → c * 1000000 < 2500000 * 3
+  -- any two sides at 2.1 and a slack of a tenth, and of all
+  pub near-tenth :
+      QuotesNear → (q s : ℕ)
+      → let t : Trade = tradeWithin q s 2100000 2310000 1890000 in
+      (t .quote .0 * 1000000 < t .base .0 * 2100000 + 1000000) × (2 * (t .base .0 * 2100000) < 2 * (t .quote .0 * 1000000) + 1000000)
+  pub near-all :
+      QuotesNear → (q s : ℕ)
+      → let t : Trade = tradeWithin q s 2100000 4200000 0 in
+      (t .quote .0 * 1000000 < t .base .0 * 2100000 + 1000000) × (2 * (t .base .0 * 2100000) < 2 * (t .quote .0 * 1000000) + 1000000)
   -- the three offers and the one, whatever is paid and got: more than T too
   pub shares-three : SharesHold → (P G : ℕ) → ShareLaw 301 P G threeOffers
   pub shares-one : SharesHold → (P G : ℕ) → ShareLaw 1 P G (1 ∷ [])

@@ -9,7 +9,7 @@ use Rattle.units.specs.Sums.{sumOver}
 use Rattle.pricing.specs.declared.Side.{Side}
 use Rattle.pricing.specs.declared.Side.the-variants.{Buy, Sell}
 use Rattle.pricing.specs.declared.Trade.{Trade}
-use Rattle.pricing.specs.Prices.{offLimit, matchBase, tradeWithin, auctionPrice, sharePaid, shareGot, fetches}
+use Rattle.pricing.specs.Prices.{highBound, lowBound, offLimit, matchBase, matchQuote, trade, tradeWithin, auctionPrice, sharePaid, shareGot, fetches}
 
 -- from a to b as a side's price moves: the buys' rises, the sells' falls
 abbrev pub Moves : Side → ℕ → ℕ → Type 0
@@ -46,15 +46,32 @@ abbrev pub PricesWithin : Type 0
 PricesWithin =
     (x : Side) (hi lo k len : ℕ) → lo ≤ hi → 0 < len → k ≤ len → (lo ≤ auctionPrice x hi lo k len) × (auctionPrice x hi lo k len ≤ hi)
 
--- what a match trades fits both sides and both bounds
+-- what a match trades, r lying between the bounds, fits both sides and both bounds
 abbrev pub TradesFit : Type 0
 TradesFit = (q s r hi lo : ℕ) → lo ≤ r → r ≤ hi → TradeFits q s lo hi (tradeWithin q s r hi lo)
 
--- L4, "only otherwise are m and c 0": where m is above 0 and the match is dropped, no whole c keeps both bounds
+-- where c rounded up keeps hi it is traded, as before L4
+abbrev pub UpperKept : Type 0
+UpperKept =
+    (q s r hi lo : ℕ) → matchQuote (matchBase q s r) r * million ≤ hi * matchBase q s r
+    → tradeWithin q s r hi lo ≡ trade (matchBase q s r) (matchQuote (matchBase q s r) r)
+
+-- without slack, hi and lo being r, where c rounded up breaks hi nothing is traded, as before L4
+abbrev pub NoSlack : Type 0
+NoSlack = (q s r : ℕ) → r * matchBase q s r < matchQuote (matchBase q s r) r * million → tradeWithin q s r r r ≡ trade 0 0
+
+-- L4, "only otherwise are m and c 0": where nothing is traded, any c of at least 1 that keeps hi for m is below lo
 abbrev pub DropsOnly : Type 0
 DropsOnly =
-    (q s r hi lo c : ℕ) → 1 ≤ lo → 0 < matchBase q s r → tradeWithin q s r hi lo .base .0 ≡ 0 → c * million ≤ hi * matchBase q s r
+    (q s r hi lo c : ℕ) → tradeWithin q s r hi lo .base .0 ≡ 0 → 1 ≤ c → c * million ≤ hi * matchBase q s r
     → c * million < lo * matchBase q s r
+
+-- the quote of a match lies less than a unit above what its base comes to at r, or less than half a unit below it
+abbrev pub QuotesNear : Type 0
+QuotesNear =
+    (q s r w : ℕ) → w ≤ million
+    → let t : Trade = tradeWithin q s r (highBound r w) (lowBound r w) in
+    (t .quote .0 * million < t .base .0 * r + million) × (2 * (t .base .0 * r) < 2 * (t .quote .0 * million) + million)
 
 -- "Find the share's law once for all sides and tokens": offers of any side whose sum is its total T
 abbrev pub SharesHold : Type 0

@@ -1,0 +1,55 @@
+-- The statement on matches used, met and refused.
+use Prim.Native.Nat.{ℕ, _*_, _≤_, _<_}
+use mathlib.Core.Path.{_≡_, ap, refl, subst, sym}
+use native.Mathlib.Omega.{arith}
+use Rattle.model.specs.declared.state.Phase.{Phase}
+use Rattle.model.specs.declared.state.Round.{Round}
+use Rattle.model.specs.State.{phase, roundIn}
+use Rattle.model.specs.Matching.{MatchTells, baseOf}
+use Rattle.cases.specs.MatchCases.{MatchUsed, MatchMet, MatchRefused}
+use Rattle.model.proofs.Computing.{call-computes}
+
+pub match-used : MatchUsed
+match-used =
+    record {
+      base-fits = λ t x l e. t x l 2 9 7 5 e .fits .base-fits;
+      quote-fits = λ t x l e. t x l 2 9 7 5 e .fits .quote-fits;
+      not-above = λ t x l e. t x l 2 9 7 5 e .fits .not-above;
+      not-below = λ t x l e. t x l 2 9 7 5 e .fits .not-below;
+      whole = λ t x l e. sym (t x l 2 9 7 5 e .whole (omega arith));
+      dropped = λ t x l r p e one d.
+          let m : MatchTells r 0 0 = subst (λ (s : Phase). MatchTells (roundIn s) 0 0) p (t x l 2 9 0 0 e) in
+          subst (λ (n : ℕ). d * 1000000 ≤ r .hi .0 * n → d * 1000000 < r .lo .0 * n) one (m .only refl (omega (arith, one)) d);
+    }
+
+pub match-met : MatchMet
+unfolding call-computes
+match-met =
+    record {
+      one-base = record {
+        fits = record { base-fits = omega arith; quote-fits = omega arith; not-above = omega arith; not-below = omega arith };
+        whole = λ l. refl;
+        only = λ e l d k. omega (arith, e);
+      };
+      three-base = record {
+        fits = record { base-fits = omega arith; quote-fits = omega arith; not-above = omega arith; not-below = omega arith };
+        whole = λ l. refl;
+        only = λ e l d k. omega (arith, e);
+      };
+      no-base = record {
+        fits = record { base-fits = omega arith; quote-fits = omega arith; not-above = omega arith; not-below = omega arith };
+        whole = λ l. omega (arith, l);
+        only = λ e l d k. omega (arith, l);
+      };
+    }
+
+pub match-refused : MatchRefused
+unfolding call-computes
+match-refused =
+    record {
+      above = λ t. let h : 3000000 ≤ 2310000 = t .fits .not-above in omega (arith, h);
+      below = λ t. let h : 1890000 ≤ 1000000 = t .fits .not-below in omega (arith, h);
+      dropped = λ t. let h : 2000000 < 1890000 = t .only refl (omega arith) 2 (omega arith) in omega (arith, h);
+      part = λ t. let h : _≡_ {A = ℕ} 1 3 = t .whole (omega arith) in omega (arith, h);
+      more = λ t. let h : 2 ≤ 1 = t .fits .base-fits in omega (arith, h);
+    }
