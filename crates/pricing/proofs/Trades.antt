@@ -40,10 +40,10 @@ by-rounding K hi lo m c d upper lower none =
         → (some : Bool) → (some ≡ true → 1 ≤ d) → (some ≡ false → d < 1)
         → (kept : Bool) → (kept ≡ true → lo * m ≤ d * million) → (kept ≡ false → d * million < lo * m)
         → K (cond above (cond (some && kept) (trade m d) (trade 0 0)) (trade m c))
-    go false a a′ u s s′ k k′ l = upper (a′ refl)
+    go false a a′ u s s′ v k k′ = upper (a′ refl)
     go true a a′ true s s′ true k k′ = lower (a refl) (k refl)
     go true a a′ true s s′ false k k′ = none (a refl) (λ l. k′ refl)
-    go true a a′ false s s′ u k k′ = none (a refl) (λ l. omega (arith, l, s′ refl))
+    go true a a′ false s s′ v k k′ = none (a refl) (λ l. omega (arith, l, s′ refl))
 
 -- the trade of match fits
 pub trade-fits : TradesFit

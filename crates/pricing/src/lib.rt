@@ -157,7 +157,7 @@ fn lower_trade(base: Amount, quote: Amount, lo: Price) -> Trade
     none
 }
 
-// What buys of q quote and sells of s base trade at the reference price, rounded to keep hi and lo.
+// What buys of q quote and sells of s base trade at the reference price: the quote is rounded up, or down where that breaks hi.
 pub fn trade_within(q: Amount, s: Amount, reference: Price, hi: Price, lo: Price) -> Trade
     requires { ⌜ 1 ≤ reference .0 ⌝ }
     ensures { λ t. ⌜ t ≡ tradeWithin (q .0) (s .0) (reference .0) (hi .0) (lo .0) ⌝ }
