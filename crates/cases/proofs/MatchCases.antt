@@ -41,6 +41,11 @@ match-met =
         whole = λ l. omega (arith, l);
         only = λ e l d k. omega (arith, l);
       };
+      edge = record {
+        fits = record { base-fits = omega arith; quote-fits = omega arith; not-above = omega arith; not-below = omega arith };
+        whole = λ l. omega (arith, l);
+        only = λ e l d k. omega (arith, k);
+      };
     }
 
 pub match-refused : MatchRefused

@@ -12,13 +12,17 @@ use Rattle.model.specs.Calls.{openedRound}
 use Rattle.model.specs.Run.{stepOf, Reachable}
 use Rattle.model.specs.Matching.{MatchTells, MatchesTell, baseOf}
 
--- r 2,100,000 and slack 100,000, so between 1.89 and 2.31: a round that collected q quote and s base
-abbrev pub offered : ℕ → ℕ → Round
-offered q s =
+-- a round at reference price r and slack w that collected q quote and s base
+abbrev pub collectedAt : ℕ → ℕ → ℕ → ℕ → Round
+collectedAt r w q s =
     withSides
-    (openedRound 0 2100000 100000 1)
+    (openedRound 0 r w 1)
     (record { total = amount q; paid = amount 0; got = amount 0 })
     (record { total = amount s; paid = amount 0; got = amount 0 })
+
+-- r 2,100,000 and slack 100,000, so between 1.89 and 2.31
+abbrev pub offered : ℕ → ℕ → Round
+offered = collectedAt 2100000 100000
 
 -- ---- what it gives of market 2, whatever its round
 
@@ -41,6 +45,8 @@ pub record MatchMet : Type 0 where
   pub one-base : MatchTells (offered 1000 1) 1 2
   pub three-base : MatchTells (offered 1000 3) 3 6
   pub no-base : MatchTells (offered 2 1) 0 0
+  -- the marked edge: three base could be traded, and no quote keeps both bounds
+  pub edge : MatchTells (collectedAt 2500000 0 100 3) 0 0
 
 -- ---- what it refuses
 
