@@ -114,7 +114,7 @@ fn small_match(reference: u32, slack: u32, buys: u32, sells: u32) -> (u8, u32, u
 }
 
 #[test]
-fn a_match_above_the_high_bound_is_dropped() {
+fn a_match_that_no_quote_suits_is_dropped() {
     assert_eq!(small_match(2500000, 0, 100, 3), (0, 0, 0));
     assert_eq!(small_match(2500000, 0, 100, 4), (0, 4, 10));
 }

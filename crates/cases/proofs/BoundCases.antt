@@ -34,6 +34,8 @@ bounds-refused =
       lo-zero = λ b. let h : 0 < 0 = b .phase-bounds 3 (omega arith) (omega arith) .terms .low in omega (arith, h);
       lo-high = λ b. let h : 3 ≤ 2 = b .phase-bounds 3 (omega arith) (omega arith) .terms .order-low in omega (arith, h);
       hi-low = λ b. let h : 2 ≤ 1 = b .phase-bounds 3 (omega arith) (omega arith) .terms .order-high in omega (arith, h);
+      lo-near = λ b. let h : _≡_ {A = ℕ} 5 4 = b .phase-bounds 3 (omega arith) (omega arith) .terms .even in omega (arith, h);
+      hi-near = λ b. let h : _≡_ {A = ℕ} 3 4 = b .phase-bounds 3 (omega arith) (omega arith) .terms .even in omega (arith, h);
       hi-high = λ b. let h : 1500000001 ≤ 1500000000 = b .phase-bounds 3 (omega arith) (omega arith) .terms .high in omega (arith, h);
       length-zero = λ b. let h : 0 < 0 = b .phase-bounds 3 (omega arith) (omega arith) .terms .len-pos in omega (arith, h);
       length-65 = λ b. let h : 65 ≤ 64 = b .phase-bounds 3 (omega arith) (omega arith) .terms .len-high in omega (arith, h);

@@ -108,11 +108,14 @@ pub record BoundsRefused : Type 0 where
   pub entered-market-4 : NotBounded (atTicket (Entered (order 15 4 Sell 1 1)))
   pub entered-limit : NotBounded (enteredWith (order 15 3 Sell 0 1))
   pub entered-offer : NotBounded (enteredWith (order 15 3 Sell 1 0))
-  -- terms: lo 0, lo above r, r above hi, hi above 1,500,000,000, L 0, L 65
-  pub lo-zero : NotBounded (atMarket (Paying (openedBetween 0 2 64 (price 3) (price 0))))
-  pub lo-high : NotBounded (atMarket (Paying (openedBetween 0 2 64 (price 3) (price 3))))
-  pub hi-low : NotBounded (atMarket (Paying (openedBetween 0 2 64 (price 1) (price 1))))
-  pub hi-high : NotBounded (atMarket (Paying (openedBetween 0 2 64 (price 1500000001) (price 1))))
+  -- terms: lo 0; lo above r and so, equally far, r above hi, which two bounds refuse; a bound one further from r than the other; hi above
+  -- 1,500,000,000; L 0, L 65
+  pub lo-zero : NotBounded (atMarket (Paying (openedBetween 0 2 64 (price 4) (price 0))))
+  pub lo-high : NotBounded (atMarket (Paying (openedBetween 0 2 64 (price 1) (price 3))))
+  pub hi-low : NotBounded (atMarket (Paying (openedBetween 0 2 64 (price 1) (price 3))))
+  pub lo-near : NotBounded (atMarket (Paying (openedBetween 0 2 64 (price 3) (price 2))))
+  pub hi-near : NotBounded (atMarket (Paying (openedBetween 0 2 64 (price 2) (price 1))))
+  pub hi-high : NotBounded (atMarket (Paying (openedBetween 0 750000001 64 (price 1500000001) (price 1))))
   pub length-zero : NotBounded (atMarket (Paying (openedBetween 0 2 0 (price 3) (price 1))))
   pub length-65 : NotBounded (atMarket (Paying (openedBetween 0 2 65 (price 3) (price 1))))
   -- in every phase

@@ -441,7 +441,7 @@ bothSidesSold =
     ∷ accepted (Open 3 7 2500000 0 1) 2500000 2500000
     ∷ accepted (Enter 63) 100 0
     ∷ accepted (Enter 0) 3 0
-    -- m 3, c 7.5 up 8, and 8,000,000 > 2,500,000 × 3
+    -- m 3, c 7.5 up 8, and 8,000,000 > 2,500,000 × 3; down 7, and 7,000,000 < 7,500,000
     ∷ accepted (Match 3 11) 0 0
     ∷ refused (Settle 3 11) 13
     -- 3 × 2.5 is 7.5, up 8: the maker's whole quote for all base left
@@ -534,8 +534,8 @@ threeSells =
     ∷ balance-is 0 1 80
     ∷ []
 
--- Matches whose c is rounded up, in three markets at once: it just meets hi and stands, it passes hi and is dropped, it stays below hi. A
--- match that leaves nothing is settled in its own block.
+-- Matches whose c is rounded up, in three markets at once: it just meets hi and stands, it passes hi, is below lo rounded down and is dropped,
+-- it stays below hi. A match that leaves nothing is settled in its own block.
 unfoldable pub matchesBounded : List Line
 matchesBounded =
     accepted (Deposit 0 0 104) 104 0
@@ -560,7 +560,7 @@ matchesBounded =
     ∷ accepted (Enter 5) 3 0
     -- c 1.6 up 2: 2,000,000 is not above hi × 1
     ∷ accepted (Match 1 4) 1 2
-    -- 2,000,000 is above 1,999,998
+    -- 2,000,000 is above 1,999,998; down 1, and 1,000,000 is below 1,200,002
     ∷ accepted (Match 2 4) 0 0
     -- c 7.5 up 8: 8,000,000 is not above 2,750,000 × 3
     ∷ accepted (Match 3 4) 3 8
@@ -589,18 +589,19 @@ matchesBounded =
     ∷ residue-is 0 0
     ∷ []
 
--- Document 02, L4: matches whose c rounded up breaks hi, in three markets at once. In market 1 the request's own, with the least quote that is
--- enough and limits just hi and just lo. In market 2 c rounded down just meets lo, and a maker takes of what is left. In market 3 lo is two
--- millionths higher, and the match is dropped.
+-- Document 02, L4: matches whose c rounded up breaks hi, in three markets at once, with limits just hi and just lo. In market 1 the buys have
+-- the less, and a maker takes of the base left. In market 2 c rounded down just meets lo, and the maker takes of the quote left. In market 3 lo
+-- is two millionths higher, and the match is dropped.
 unfoldable pub matchesLowered : List Line
 matchesLowered =
-    accepted (Deposit 0 0 13) 13 0
-    ∷ accepted (Deposit 1 1 1) 1 0
+    accepted (Deposit 0 0 17) 17 0
+    ∷ accepted (Deposit 1 1 9) 9 0
     ∷ accepted (Deposit 1 2 1) 1 0
     ∷ accepted (Deposit 1 3 1) 1 0
+    ∷ accepted (Deposit 15 0 5) 5 0
     ∷ accepted (Deposit 15 2 1) 1 0
-    ∷ accepted (Order 0 0 1 0 2310000 3) 3 0
-    ∷ accepted (Order 1 1 1 1 1890000 1) 1 0
+    ∷ accepted (Order 0 0 1 0 2310000 7) 7 0
+    ∷ accepted (Order 1 1 1 1 1890000 9) 9 0
     ∷ accepted (Order 2 0 2 0 2800000 5) 5 0
     ∷ accepted (Order 3 1 2 1 2000000 1) 1 0
     ∷ accepted (Order 4 0 3 0 2799998 5) 5 0
@@ -610,27 +611,29 @@ matchesLowered =
     ∷ accepted (Open 2 0 2400000 166667 1) 2800000 2000000
     -- 2,799,998.4 down, 2,000,001.6 up
     ∷ accepted (Open 3 0 2400000 166666 1) 2799998 2000002
-    ∷ accepted (Enter 0) 3 0
-    ∷ accepted (Enter 1) 1 0
+    ∷ accepted (Enter 0) 7 0
+    ∷ accepted (Enter 1) 9 0
     ∷ accepted (Enter 2) 5 0
     ∷ accepted (Enter 3) 1 0
     ∷ accepted (Enter 4) 5 0
     ∷ accepted (Enter 5) 1 0
-    -- c 2.1 up 3, above hi; down 2, and 2,000,000 is not below 1,890,000
-    ∷ accepted (Match 1 4) 1 2
+    -- 7 quote fetch 3.3 base, down 3; c 6.3 up 7, above 2.31 × 3; down 6, and not below 1.89 × 3
+    ∷ accepted (Match 1 4) 3 6
     -- c 2.4 up 3, above hi; down 2, and 2,000,000 is just lo
     ∷ accepted (Match 2 4) 1 2
     -- 2,000,000 is below 2,000,002
     ∷ accepted (Match 3 4) 0 0
-    -- 3 quote are left, at 2 for one base
+    -- of 6 base 2 at 2.31, up 5
+    ∷ accepted (Bid 1 15 4 1 2 5) 2 5
+    -- of 3 quote 2 at 2 for one base
     ∷ accepted (Bid 2 15 4 0 1 2) 1 2
-    -- 1 quote is left
     ∷ refused (Settle 1 5) 13
-    ∷ accepted (Settle 1 6) 2 1
+    ∷ accepted (Settle 1 6) 6 5
     ∷ accepted (Settle 2 6) 4 1
     ∷ accepted (Settle 3 6) 0 0
-    ∷ accepted (Claim 0) 2 1
-    ∷ accepted (Claim 1) 1 2
+    ∷ accepted (Claim 0) 6 3
+    -- 6 of the match and 5 of the maker
+    ∷ accepted (Claim 1) 5 11
     ∷ accepted (Claim 2) 4 2
     ∷ accepted (Claim 3) 1 2
     ∷ accepted (Claim 4) 0 0
@@ -639,15 +642,18 @@ matchesLowered =
     ∷ closed-is 2 true
     ∷ closed-is 3 true
     ∷ accepted (Cancel 0 0) 1 0
+    ∷ accepted (Cancel 1 1) 4 0
     ∷ accepted (Cancel 2 0) 1 0
     ∷ accepted (Cancel 4 0) 5 0
     ∷ accepted (Cancel 5 1) 1 0
     ∷ balance-is 0 0 7
-    ∷ balance-is 0 1 1
+    ∷ balance-is 0 1 3
     ∷ balance-is 0 2 2
-    ∷ balance-is 1 0 4
+    ∷ balance-is 1 0 13
+    ∷ balance-is 1 1 4
     ∷ balance-is 1 3 1
     ∷ balance-is 15 0 2
+    ∷ balance-is 15 1 2
     ∷ residue-is 0 0
     ∷ residue-is 1 0
     ∷ residue-is 2 0

@@ -22,7 +22,7 @@ use Rattle.units.specs.Sums.{only}
 use Rattle.model.proofs.Frames.{inside, phase-keeps}
 use Rattle.model.proofs.Inv.{Inv, MarketOk, Quiet, RoundOk, closed-is, idle-is}
 use Rattle.pricing.proofs.Limits.{rate-none}
-use Rattle.pricing.proofs.Prices.{high-le, le-high, low-le, low-pos}
+use Rattle.pricing.proofs.Prices.{bounds-even, high-le, le-high, low-le, low-pos}
 use Rattle.ticket_set.proofs.Laws.{bit-of-empty}
 use Rattle.units.proofs.Decide.{Passed, or-false}
 use Rattle.units.proofs.Sums.{only-zero, sum-zero}
@@ -80,6 +80,7 @@ opened-ok at r w len hr hr2 hw hl hl2 =
             low = low-pos r w hr hw;
             order-low = low-le r w;
             order-high = le-high r w;
+            even = bounds-even r w (omega (arith, hw));
             high = high-le r w hr2 hw;
             len-pos = hl;
             len-high = hl2;

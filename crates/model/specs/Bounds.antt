@@ -43,6 +43,8 @@ pub record TermsBounds (reference hi lo len : ℕ) : Type 0 where
   pub low : 0 < lo
   pub order-low : lo ≤ reference
   pub order-high : reference ≤ hi
+  -- hi and lo equally far from it, which no call needs: for what is said of a match's quote (`Matching`)
+  pub even : hi + lo ≡ reference + reference
   pub high : hi ≤ highestBound
   pub len-pos : 0 < len
   pub len-high : len ≤ longestAuction

@@ -1,16 +1,16 @@
 -- The laws in the numbers of specs/LawExamples.antt: used, met and refused.
-use Prim.Native.Nat.{ℕ, _≤_, _<_}
+use Prim.Native.Nat.{_≤_, _<_}
 use mathlib.Core.Path.{refl}
-use mathlib.Core.List.{List, [], _∷_}
+use mathlib.Core.List.{[], _∷_}
 use native.Mathlib.Omega.{arith}
 use Rattle.units.specs.Rounding.{down, up}
 use Rattle.units.specs.Sums.{sumOver}
 use Rattle.pricing.specs.declared.Side.the-variants.{Buy, Sell}
-use Rattle.pricing.specs.Prices.{highBound, lowBound, lowerQuote, matchBase, matchQuote, tradeWithin, sharePaid, shareGot}
+use Rattle.pricing.specs.Prices.{lowerQuote, matchBase, matchQuote, tradeWithin, sharePaid, shareGot}
 use Rattle.pricing.specs.LawExamples.{threeOffers, LawsUsed, LawsMet, LawsRefused}
 
 pub laws-used : LawsUsed
-unfolding sumOver highBound lowBound tradeWithin matchBase matchQuote lowerQuote down up
+unfolding sumOver tradeWithin matchBase matchQuote lowerQuote down up
 laws-used =
     record {
       buys-rise = λ a b m. m;
@@ -38,8 +38,8 @@ laws-used =
       no-slack-any = λ w q s l. w q s 2500000 l;
       drops-any = λ w q s c e p l. w q s 2100000 2310000 1890000 c e p l;
       drops-three = λ w c p l. w 100 3 2500000 2500000 2500000 c refl p l;
-      near-tenth = λ w q s. w q s 2100000 100000 (omega arith);
-      near-all = λ w q s. w q s 2100000 1000000 (omega arith);
+      even-any = λ w s l. w 2100000 s l;
+      near-any = λ w q s hi lo e. let n = w q s 2100000 hi lo e in (n .above, n .below);
       shares-three = λ w P G. w 301 P G threeOffers (omega arith) refl;
       shares-one = λ w P G. w 1 P G (1 ∷ []) (omega arith) refl;
       buy-limit = λ w o P G T p r. w Buy 2750000 2750000 2250000 o P G T p (omega arith) refl r;
@@ -55,6 +55,8 @@ laws-met =
       buys-rate = omega arith;
       sells-rate = omega arith;
       trade-fits = record { base-fits = omega arith; quote-fits = omega arith; not-above = omega arith; not-below = omega arith };
+      near-above = record { above = omega arith; below = omega arith };
+      near-below = record { above = omega arith; below = omega arith };
     }
 
 pub laws-refused : LawsRefused
@@ -74,6 +76,8 @@ laws-refused =
       price-above = λ f. let h : 10000000 ≤ 9999996 = f .not-above in omega (arith, h);
       price-below = λ f. let h : 10000004 ≤ 10000000 = f .not-below in omega (arith, h);
       high-below = λ f. let h : 3000000 ≤ 1 = f .not-above in omega (arith, h);
+      unit-above = λ n. let h : 3000000 < 3000000 = n .above in omega (arith, h);
+      half-below = λ n. let h : 5000000 < 5000000 = n .below in omega (arith, h);
       paid-short = λ s. let h : 2 ≤ 1 = s .paid-enough in omega (arith, h);
       paid-over = λ s. let h : 2 < 2 = s .paid-close (omega arith) in omega (arith, h);
       got-over = λ s. let h : 3 ≤ 2 = s .got-within in omega (arith, h);

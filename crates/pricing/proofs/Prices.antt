@@ -5,7 +5,7 @@ use native.Mathlib.Nat.{le-antisymm, le-of-mul-le-mul-left, mul-le-mul, mul-le-m
 use native.Mathlib.Omega.{arith}
 use lib.Dec.{lit<}
 use Rattle.units.specs.Ranges.{highestBound, highestReference, highestSlack}
-use Rattle.pricing.specs.Laws.{Moves, PricesWithin}
+use Rattle.pricing.specs.Laws.{BoundsEven, Moves, PricesWithin}
 use Rattle.pricing.specs.Prices.{auctionPrice, highBound, lowBound}
 use Rattle.pricing.specs.declared.Side.{Side}
 use Rattle.pricing.specs.declared.Side.the-variants.{Buy, Sell}
@@ -36,7 +36,7 @@ unfolding highBound
 le-high r w = le-down (r * (million + w)) million r million-pos (omega arith)
 
 -- both bounds lie equally far from the reference price
-pub bounds-even : (r w : ℕ) → w ≤ million → highBound r w + lowBound r w ≡ r + r
+pub bounds-even : BoundsEven
 unfolding highBound lowBound
 bounds-even r w h =
     let e : w + (million - w) ≡ million = omega (arith, h) in

@@ -5,8 +5,8 @@ use mathlib.Core.List.{List, [], _∷_}
 use Rattle.pricing.specs.declared.Side.{Side}
 use Rattle.pricing.specs.declared.Side.the-variants.{Buy, Sell}
 use Rattle.pricing.specs.declared.Trade.{Trade}
-use Rattle.pricing.specs.Prices.{matchBase, matchQuote, trade, tradeWithin, auctionPrice, sharePaid, shareGot, fetches}
-use Rattle.pricing.specs.Laws.{Moves, TradeFits, ShareLaw, Rate, PricesWithin, TradesFit, UpperKept, NoSlack, DropsOnly, QuotesNear, SharesHold, LimitsHold}
+use Rattle.pricing.specs.Prices.{highBound, lowBound, matchBase, matchQuote, trade, tradeWithin, auctionPrice, sharePaid, shareGot, fetches}
+use Rattle.pricing.specs.Laws.{Moves, TradeFits, Near, ShareLaw, Rate, BoundsEven, PricesWithin, TradesFit, UpperKept, NoSlack, DropsOnly, QuotesNear, SharesHold, LimitsHold}
 
 -- "Offers 100, 100, 101 (T 301)"
 abbrev pub threeOffers : List ℕ
@@ -59,14 +59,11 @@ pub record LawsUsed : Type 0 where
       DropsOnly → (q s c : ℕ) → tradeWithin q s 2100000 2310000 1890000 .base .0 ≡ 0 → 1 ≤ c
       → c * 1000000 ≤ 2310000 * matchBase q s 2100000 → c * 1000000 < 1890000 * matchBase q s 2100000
   pub drops-three : DropsOnly → (c : ℕ) → 1 ≤ c → c * 1000000 ≤ 2500000 * 3 → c * 1000000 < 2500000 * 3
-  -- any two sides at 2.1 and a slack of a tenth, and of all
-  pub near-tenth :
-      QuotesNear → (q s : ℕ)
-      → let t : Trade = tradeWithin q s 2100000 2310000 1890000 in
-      (t .quote .0 * 1000000 < t .base .0 * 2100000 + 1000000) × (2 * (t .base .0 * 2100000) < 2 * (t .quote .0 * 1000000) + 1000000)
-  pub near-all :
-      QuotesNear → (q s : ℕ)
-      → let t : Trade = tradeWithin q s 2100000 4200000 0 in
+  -- any bounds of 2.1, up to a slack of all of it; any two sides between any bounds equally far from it
+  pub even-any : BoundsEven → (w : ℕ) → w ≤ 1000000 → highBound 2100000 w + lowBound 2100000 w ≡ 4200000
+  pub near-any :
+      QuotesNear → (q s hi lo : ℕ) → hi + lo ≡ 4200000
+      → let t : Trade = tradeWithin q s 2100000 hi lo in
       (t .quote .0 * 1000000 < t .base .0 * 2100000 + 1000000) × (2 * (t .base .0 * 2100000) < 2 * (t .quote .0 * 1000000) + 1000000)
   -- the three offers and the one, whatever is paid and got: more than T too
   pub shares-three : SharesHold → (P G : ℕ) → ShareLaw 301 P G threeOffers
@@ -89,6 +86,9 @@ pub record LawsMet : Type 0 where
   pub sells-rate : Rate Sell 2750000 2250000 4 9
   -- 4 base for 10 quote: all of both sides, at hi and at lo
   pub trade-fits : TradeFits 10 4 2500000 2500000 (trade 4 10)
+  -- 3 and 2 for one base, a millionth nearer than a unit above and half a unit below
+  pub near-above : Near 2000001 (trade 1 3)
+  pub near-below : Near 2499999 (trade 1 2)
 
 -- ---- what they refuse, one unit further
 
@@ -109,6 +109,9 @@ pub record LawsRefused : Type 0 where
   pub price-below : TradeFits 10 4 2500001 2500001 (trade 4 10) → ⊥
   -- why the law asks r ≤ hi: for a quote rounded down hi is not tested again, and at r 3 with a hi of a millionth one base brings 3
   pub high-below : TradeFits 100 1 0 1 (tradeWithin 100 1 3000000 1 0) → ⊥
+  -- 3 and 2 for one base, a unit above and half a unit below
+  pub unit-above : Near 2000000 (trade 1 3) → ⊥
+  pub half-below : Near 2500000 (trade 1 2) → ⊥
   -- offers that are not their side's: 1 of 2 pays 1 where 2 were paid; 2 of 1 pay 2 where 1 was paid
   pub paid-short : ShareLaw 2 2 0 (1 ∷ []) → ⊥
   pub paid-over : ShareLaw 1 1 0 (2 ∷ []) → ⊥

@@ -23,6 +23,11 @@ pub record TradeFits (q s lo hi : ℕ) (t : Trade) : Type 0 where
   pub not-above : t .quote .0 * million ≤ hi * t .base .0
   pub not-below : lo * t .base .0 ≤ t .quote .0 * million
 
+-- the quote of a trade is less than a unit above what its base comes to at r, or less than half a unit below it
+pub record Near (r : ℕ) (t : Trade) : Type 0 where
+  pub above : t .quote .0 * million < t .base .0 * r + million
+  pub below : 2 * (t .base .0 * r) < 2 * (t .quote .0 * million) + million
+
 -- the share law: offers os of a side that in all paid P and got G
 pub record ShareLaw (T P G : ℕ) (os : List ℕ) : Type 0 where
   -- together the offers pay at least what the side paid, and less than one unit per offer more
@@ -41,6 +46,10 @@ Rate Sell hi lo P G = P * lo ≤ G * million
 
 -- ---- the laws
 
+-- the bounds lie equally far from the reference price
+abbrev pub BoundsEven : Type 0
+BoundsEven = (r w : ℕ) → w ≤ million → highBound r w + lowBound r w ≡ r + r
+
 -- an auction price lies between the bounds
 abbrev pub PricesWithin : Type 0
 PricesWithin =
@@ -50,28 +59,30 @@ PricesWithin =
 abbrev pub TradesFit : Type 0
 TradesFit = (q s r hi lo : ℕ) → lo ≤ r → r ≤ hi → TradeFits q s lo hi (tradeWithin q s r hi lo)
 
--- where c rounded up keeps hi it is traded, as before L4
+-- where c rounded up keeps hi it is traded: there L4 changes nothing
 abbrev pub UpperKept : Type 0
 UpperKept =
-    (q s r hi lo : ℕ) → matchQuote (matchBase q s r) r * million ≤ hi * matchBase q s r
-    → tradeWithin q s r hi lo ≡ trade (matchBase q s r) (matchQuote (matchBase q s r) r)
+    (q s r hi lo : ℕ)
+    → let m : ℕ = matchBase q s r in
+    matchQuote m r * million ≤ hi * m → tradeWithin q s r hi lo ≡ trade m (matchQuote m r)
 
--- without slack, hi and lo being r, where c rounded up breaks hi nothing is traded, as before L4
+-- nor does it without slack, hi and lo being r: where c rounded up breaks hi nothing is traded
 abbrev pub NoSlack : Type 0
-NoSlack = (q s r : ℕ) → r * matchBase q s r < matchQuote (matchBase q s r) r * million → tradeWithin q s r r r ≡ trade 0 0
+NoSlack =
+    (q s r : ℕ)
+    → let m : ℕ = matchBase q s r in
+    r * m < matchQuote m r * million → tradeWithin q s r r r ≡ trade 0 0
 
 -- L4, "only otherwise are m and c 0": where nothing is traded, any c of at least 1 that keeps hi for m is below lo
 abbrev pub DropsOnly : Type 0
 DropsOnly =
-    (q s r hi lo c : ℕ) → tradeWithin q s r hi lo .base .0 ≡ 0 → 1 ≤ c → c * million ≤ hi * matchBase q s r
-    → c * million < lo * matchBase q s r
+    (q s r hi lo c : ℕ)
+    → let m : ℕ = matchBase q s r in
+    tradeWithin q s r hi lo .base .0 ≡ 0 → 1 ≤ c → c * million ≤ hi * m → c * million < lo * m
 
--- the quote of a match lies less than a unit above what its base comes to at r, or less than half a unit below it
+-- between bounds that lie equally far from r
 abbrev pub QuotesNear : Type 0
-QuotesNear =
-    (q s r w : ℕ) → w ≤ million
-    → let t : Trade = tradeWithin q s r (highBound r w) (lowBound r w) in
-    (t .quote .0 * million < t .base .0 * r + million) × (2 * (t .base .0 * r) < 2 * (t .quote .0 * million) + million)
+QuotesNear = (q s r hi lo : ℕ) → hi + lo ≡ r + r → Near r (tradeWithin q s r hi lo)
 
 -- "Find the share's law once for all sides and tokens": offers of any side whose sum is its total T
 abbrev pub SharesHold : Type 0

@@ -47,7 +47,7 @@ lowerQuote m r = down (m * r) million
 abbrev pub lowerTrade : ℕ → ℕ → ℕ → Trade
 lowerTrade lo m c = cond (leb 1 c && leb (lo * m) (c * million)) (trade m c) (trade 0 0)
 
--- "Where c×1,000,000 > hi×m": in place of document 01's "m and c become 0" L4 has the other rounding. c is rounded up, d rounded down
+-- "Where c×1,000,000 > hi×m", L4's "Where c rounded up breaks hi": in place of document 01's "m and c become 0" comes d, c rounded down
 abbrev pub tradeOr : ℕ → ℕ → ℕ → ℕ → ℕ → Trade
 tradeOr hi lo m c d = cond (ltb (hi * m) (c * million)) (lowerTrade lo m d) (trade m c)
 

@@ -368,13 +368,13 @@ impl<W: Write> Traffic<W> {
         }
         let mut tickets = [0; 2];
         for side in [0, 1] {
-            let room = self.room(if side == 0 { 0 } else { market });
+            let room = self.room(offered_token(market, side));
             if room <= MOST / 2 {
                 return;
             }
             let amount = room - self.chance.pick(&[0, 0, 1, 2, 1_000]);
-            let limit = if side == 0 { 2_000_000_000 } else { 1 };
-            let Some(ticket) = self.place_order(market, side, limit, amount) else { return };
+            let ticket = self.place_order(market, side, wide_limit(side), amount);
+            let Some(ticket) = ticket else { return };
             tickets[side as usize] = ticket;
         }
         let reference = self.chance.pick(&[1_000_000, 999_999, 1_000_001, 1_000_000_000, 1]);
@@ -395,7 +395,7 @@ impl<W: Write> Traffic<W> {
     /// Places an order, after a deposit if no member has the amount, and gives
     /// its ticket.
     fn place_order(&mut self, market: u64, side: u64, limit: u64, amount: u64) -> Option<u64> {
-        let token = if side == 0 { 0 } else { market };
+        let token = offered_token(market, side);
         let ticket = self.find_ticket(|_, t| t.place == Place::Free)?;
         let member = match self.find_member(token, amount) {
             Some(member) => member,
@@ -441,9 +441,9 @@ impl<W: Write> Traffic<W> {
         self.say(Draft::new(5, &[market, block, terms.reference, terms.slack, length]));
         let Market { hi, lo, .. } = self.market(market);
         let [buys, sells] = self.small_totals(&terms);
-        for (side, total, edge, wide) in [(0, buys, hi, 2_000_000_000), (1, sells, lo, 1)] {
+        for (side, total, edge) in [(0, buys, hi), (1, sells, lo)] {
             for amount in self.parts(total) {
-                let limit = self.chance.pick(&[edge, edge, wide]);
+                let limit = self.chance.pick(&[edge, edge, wide_limit(side)]);
                 let ticket = self.place_order(market, side, limit, amount)?;
                 self.say(Draft::new(6, &[ticket]));
             }
@@ -579,7 +579,7 @@ impl<W: Write> Traffic<W> {
 
     fn side_limit(&mut self, market: u64, side: u64) -> u64 {
         let round = self.market(market);
-        let wide = if side == 0 { 2_000_000_000 } else { 1 };
+        let wide = wide_limit(side);
         if round.phase == Phase::Collect {
             let (edge, off) =
                 if side == 0 { (round.hi, round.hi - 1) } else { (round.lo, round.lo + 1) };
@@ -639,7 +639,7 @@ impl<W: Write> Traffic<W> {
             3 => {
                 let ticket = self.find_ticket(|_, t| t.place == Place::Free)?;
                 let side = self.chance.below(2);
-                let token = if side == 0 { 0 } else { market };
+                let token = offered_token(market, side);
                 let member = self.find_member(token, 1)?;
                 let balance = self.balance(member, token);
                 let amount = match self.chance.below(8) {
@@ -802,11 +802,11 @@ impl<W: Write> Traffic<W> {
             return;
         }
         let market = self.chance.pick(&self.markets);
-        let phase = self.market(market).phase;
-        if phase == Phase::Closed && self.chance.once_in(10) && self.small_round(market).is_some() {
+        let closed = self.market(market).phase == Phase::Closed;
+        if closed && self.chance.once_in(10) && self.small_round(market).is_some() {
             return;
         }
-        let kinds: &[usize] = match phase {
+        let kinds: &[usize] = match self.market(market).phase {
             Phase::Closed => &[1, 1, 2, 3, 3, 3, 4, 5, 5, 5, 10],
             // It can never be matched, but it can be left.
             Phase::Collect if self.match_block(market) > MOST => &[1, 3, 3, 6, 6, 6, 11, 11],
@@ -981,7 +981,7 @@ impl<W: Write> Traffic<W> {
                 };
                 let round = self.market(market);
                 for side in [0, 1] {
-                    let token = if side == 0 { 0 } else { market };
+                    let token = offered_token(market, side);
                     let limits =
                         if side == 0 { [round.hi - 1, round.hi] } else { [round.lo + 1, round.lo] };
                     for limit in limits {
@@ -1802,6 +1802,24 @@ impl<W: Write> Traffic<W> {
             }
         }
         numbers.join(",").into_bytes()
+    }
+}
+
+/// The token that a side's orders offer.
+fn offered_token(market: u64, side: u64) -> u64 {
+    if side == 0 {
+        0
+    } else {
+        market
+    }
+}
+
+/// The limit with which a side's orders enter any round.
+fn wide_limit(side: u64) -> u64 {
+    if side == 0 {
+        2_000_000_000
+    } else {
+        1
     }
 }
 
