@@ -81,6 +81,7 @@ module _ (r : Round) (b : RoundBounds r) where
       let d : suc c ≡ lowerQuote (baseOf r) ref = lower-is (suc m) (suc c) t a e in
       absurd (omega (arith, low, d, n (omega (arith, d))))
 
+  -- so no other two numbers are told
   told-alone : (m c : ℕ) → MatchTells r m c → trade m c ≡ tradeOf r
   told-alone m c t =
       by-rounding (λ v. trade m c ≡ v) q s ref hi lo
