@@ -32,11 +32,12 @@ pub record MatchTells (r : Round) (m c : ℕ) : Type 0 where
   -- L4: "only otherwise are m and c 0"
   pub only : m ≡ 0 → 0 < baseOf r → (d : ℕ) → d * million ≤ r .hi .0 * baseOf r → d * million < r .lo .0 * baseOf r
 
+-- of every match that is accepted
 abbrev pub MatchesTell : Type 0
 MatchesTell =
     (x : Exchange) → Reachable x → (market at m c : ℕ) → stepOf x (Call.Match market at) .answer ≡ Accepted m c
     → MatchTells (roundIn (phase x market)) m c
 
--- no other two numbers are so: what is told is the definition's trade
+-- and no other two numbers are so in a round within its bounds: what is told is the definition's trade
 abbrev pub MatchAlone : Type 0
 MatchAlone = (r : Round) → RoundBounds r → (m c : ℕ) → MatchTells r m c → trade m c ≡ tradeOf r

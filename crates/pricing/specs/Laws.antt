@@ -80,7 +80,7 @@ DropsOnly =
     → let m : ℕ = matchBase q s r in
     tradeWithin q s r hi lo .base .0 ≡ 0 → 1 ≤ c → c * million ≤ hi * m → c * million < lo * m
 
--- between bounds that lie equally far from r
+-- between bounds that lie equally far from r, what a match trades is near
 abbrev pub QuotesNear : Type 0
 QuotesNear = (q s r hi lo : ℕ) → hi + lo ≡ r + r → Near r (tradeWithin q s r hi lo)
 
