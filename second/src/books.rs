@@ -1,8 +1,8 @@
 //! What must hold of the exchange after every call. What is wrong is told by a
 //! text.
 
-use crate::engine::{Answer, Call, Exchange, Half, Market, Phase, Place, Ticket};
-use crate::engine::{MARKETS, MEMBERS, MILLION};
+use crate::engine::{Answer, Call, Exchange, Half, Market, Order, Phase, Place, Ticket};
+use crate::engine::{LIST_MOST, MARKETS, MEMBERS, MILLION, NO_LIST};
 
 /// All that was deposited and not withdrawn is somewhere, free tickets and
 /// closed markets are zero, and the rounds agree with their tickets: marks in
@@ -79,6 +79,36 @@ pub fn check_call(
     }
     check_move(was, is, call, answer)?;
     check_match(was, is, call, answer)
+}
+
+/// A list of orders leaves what its orders leave singly, from first to last,
+/// and in each place the order's answer; it answers 0, 0. Where the lists
+/// differ in length or are too long, it answers 22 and changes neither the
+/// places nor the exchange. The books are right after each order.
+pub fn check_list(
+    was: &Exchange,
+    is: &Exchange,
+    orders: &[Order],
+    before: &[Answer],
+    after: &[Answer],
+    answer: Answer,
+) -> Result<(), &'static str> {
+    let refused = orders.len() != before.len() || orders.len() > LIST_MOST;
+    let right = if refused { Answer::refused(NO_LIST) } else { Answer::accepted(0, 0) };
+    wrong_if(answer != right, "a list of orders answers another answer")?;
+    if refused {
+        return wrong_if(is != was || after != before, "a refused list changed something");
+    }
+    let mut singly = was.clone();
+    let mut answers = Vec::new();
+    for order in orders {
+        let was = singly.clone();
+        let answer = singly.call(order.call());
+        check_call(&was, &singly, order.call(), answer)?;
+        answers.push(answer);
+    }
+    wrong_if(answers != after, "a place does not hold its order's answer")?;
+    wrong_if(singly != *is, "a list does not leave what its orders leave singly")
 }
 
 /// An accepted enter or leave moves its ticket, with its order, between rest

@@ -1,10 +1,10 @@
 //! The exchange: balances, tickets, the three markets with their rounds, the
 //! tray and the last block, held in fixed arrays and changed in place by the
-//! eleven calls. Each call first tests its reasons for refusal in rising
-//! number, then moves; an answer is a code and two numbers. Every token amount
-//! is at most the token's supply (deposits less withdrawals), which never
-//! passes 4,294,967,295, so that sums of amounts fit and products fit in 64
-//! bits.
+//! eleven calls, and by lists of orders. Each call first tests its reasons for
+//! refusal in rising number, then moves; an answer is a code and two numbers.
+//! Every token amount is at most the token's supply (deposits less
+//! withdrawals), which never passes 4,294,967,295, so that sums of amounts fit
+//! and products fit in 64 bits.
 
 /// Number of members.
 pub const MEMBERS: usize = 16;
@@ -14,6 +14,8 @@ pub const TOKENS: usize = 4;
 pub const TICKETS: usize = 64;
 /// Number of markets; market n stands at place n - 1.
 pub const MARKETS: usize = 3;
+/// Most places of a list of orders, and of its answers.
+pub const LIST_MOST: usize = 64;
 
 /// A price counts millionths of a quote unit for each base unit.
 pub const MILLION: u64 = 1_000_000;
@@ -25,6 +27,9 @@ const MOST_REFERENCE: u32 = 1_000_000_000;
 const MOST_SLACK: u32 = 500_000;
 const MOST_LENGTH: u32 = 64;
 const COLLECT_BLOCKS: u32 = 4;
+
+/// Code of lists that differ in length or are too long.
+pub const NO_LIST: u8 = 22;
 
 /// What a call comes back with; code 0 is acceptance.
 #[derive(Clone, Copy, PartialEq, Eq, Debug)]
@@ -80,6 +85,25 @@ impl Call {
             Call::Claim { .. } => 10,
             Call::Leave { .. } => 11,
         }
+    }
+}
+
+/// The fields of one order of a list, not yet tested.
+#[derive(Clone, Copy, PartialEq, Eq, Debug)]
+pub struct Order {
+    pub ticket: u32,
+    pub member: u32,
+    pub market: u32,
+    pub side: u32,
+    pub limit: u32,
+    pub amount: u32,
+}
+
+impl Order {
+    /// The call that makes the order singly.
+    pub fn call(self) -> Call {
+        let Order { ticket, member, market, side, limit, amount } = self;
+        Call::Order { ticket, member, market, side, limit, amount }
     }
 }
 
@@ -370,6 +394,20 @@ impl Exchange {
         *balance -= offer;
         *slot = Ticket { place: Place::Resting, member, market, side, limit, offer };
         Answer::accepted(offer, 0)
+    }
+
+    /// Works a list of orders, from first to last, and puts the answer of each
+    /// in its place, refused or not. Answers 0, 0. Where the lists differ in
+    /// length or are too long, both stay and nothing moves: 22.
+    pub fn order_list(&mut self, orders: &[Order], answers: &mut [Answer]) -> Answer {
+        if orders.len() != answers.len() || orders.len() > LIST_MOST {
+            return Answer::refused(NO_LIST);
+        }
+        for (order, answer) in orders.iter().zip(answers) {
+            let Order { ticket, member, market, side, limit, amount } = *order;
+            *answer = self.order(ticket, member, market, side, limit, amount);
+        }
+        Answer::accepted(0, 0)
     }
 
     /// The refusals that cancel and leave share: 1, 4 and 8.
@@ -668,7 +706,7 @@ mod tests {
     //! That the books notice what is wrong: a right state, changed in one place.
 
     use super::*;
-    use crate::books::{check, check_call};
+    use crate::books::{check, check_call, check_list};
     use crate::lines::read_call;
 
     type Change = fn(&mut Exchange);
@@ -875,6 +913,51 @@ mod tests {
         for (was, is, call) in [(&was, &is, leave), (&is, &was, Call::Enter { ticket: 2 })] {
             let text = "enter or leave where the round does not collect";
             told(was, is, call, Answer::accepted(offer, 0), text);
+        }
+    }
+
+    #[test]
+    fn wrong_lists_are_told() {
+        let mut was = Exchange::new();
+        accept(&mut was, &["1,0,0,10", "1,1,1,5"]);
+        let order = Order { ticket: 0, member: 0, market: 1, side: 0, limit: 1, amount: 10 };
+        let orders = [order, order, Order { ticket: 1, member: 1, side: 1, amount: 5, ..order }];
+        let places = [Answer::accepted(7, 8); LIST_MOST + 2];
+        let right = Answer::accepted(0, 0);
+        let refusal = Answer::refused(NO_LIST);
+        let mut is = was.clone();
+        let mut after = places[..3].to_vec();
+        assert_eq!(is.order_list(&orders, &mut after), right);
+        let told = |x: &Exchange, orders: &[Order], before: &[Answer], after: &[Answer], answer| {
+            check_list(&was, x, orders, before, after, answer)
+        };
+        let before = &places[..3];
+        assert_eq!(told(&is, &orders, before, &after, right), Ok(()));
+        let text = Err("a list of orders answers another answer");
+        for answer in [refusal, Answer::accepted(1, 0), Answer::accepted(0, 1)] {
+            assert_eq!(told(&is, &orders, before, &after, answer), text);
+        }
+        let text = Err("a place does not hold its order's answer");
+        for place in 0..3 {
+            let mut other = after.clone();
+            other[place] = places[place];
+            assert_eq!(told(&is, &orders, before, &other, right), text);
+        }
+        assert_eq!(told(&is, &orders, before, &after[..2], right), text);
+        let text = Err("a list does not leave what its orders leave singly");
+        assert_eq!(told(&was, &orders, before, &after, right), text);
+
+        // lengths that differ, and too many places
+        let many = [order; LIST_MOST + 1];
+        for (orders, before) in [(&orders[..], &places[..2]), (&many[..], &places[..65])] {
+            assert_eq!(told(&was, orders, before, before, refusal), Ok(()));
+            let text = Err("a list of orders answers another answer");
+            assert_eq!(told(&was, orders, before, before, right), text);
+            let text = Err("a refused list changed something");
+            assert_eq!(told(&is, orders, before, before, refusal), text);
+            let mut other = before.to_vec();
+            other[1] = refusal;
+            assert_eq!(told(&was, orders, before, &other, refusal), text);
         }
     }
 

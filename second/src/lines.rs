@@ -180,6 +180,14 @@ pub fn read_call(line: &[u8]) -> Option<Call> {
     build(&fields)
 }
 
+/// Reads a whole line of two numbers of which the first is 0, given without
+/// its byte 10: the second one.
+pub fn read_after_zero(line: &[u8]) -> Option<u32> {
+    let fields = read_fields(line);
+    let whole = fields.good && fields.stop == line.len() && fields.stop <= LINE_MOST;
+    (whole && fields.count == 2 && fields.values[0] == 0).then_some(fields.values[1])
+}
+
 /// Reads the first line of `bytes`: the bytes it takes with its byte 10, and
 /// its call if it is one. Nothing if there is no byte 10 yet.
 #[inline]
@@ -462,6 +470,49 @@ mod tests {
             let mut padded = vec![b'0'; len];
             padded[..2].copy_from_slice(b"6,");
             no_call(&padded);
+        }
+    }
+
+    #[test]
+    fn numbers_after_a_zero() {
+        for (line, number) in [("0,0", 0), ("0,64", 64), ("0,4294967295", u32::MAX)] {
+            assert_eq!(read_after_zero(line.as_bytes()), Some(number));
+            no_call(line.as_bytes());
+        }
+        let others = [
+            "",
+            "0",
+            ",",
+            "0,",
+            ",0",
+            ",0,1",
+            "0,1,",
+            "0,,1",
+            "0,1,2",
+            "00,1",
+            "0,01",
+            "0,00",
+            "1,0",
+            "6,1",
+            "0,4294967296",
+            "0,42949672950",
+            "0,1 ",
+            " 0,1",
+            "0,1\r",
+            "0,1\0",
+            "0,-1",
+            "+0,1",
+            "0;1",
+            "4294967296,1",
+            "18446744073709551616,1",
+        ];
+        for line in others {
+            assert_eq!(read_after_zero(line.as_bytes()), None, "{line:?}");
+        }
+        for len in [79, 80, 81] {
+            let mut zeros = vec![b'0'; len];
+            zeros[1] = b',';
+            assert_eq!(read_after_zero(&zeros), None);
         }
     }
 

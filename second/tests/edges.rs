@@ -1,10 +1,12 @@
 //! Tests of the exchange: the day of the specification with its answers,
 //! every edge that the specification lists, small matches and how they are
-//! rounded, the order of the refusals, what a round leaves behind, and members
-//! who leave one. The books are checked after each call: so is every match, and
-//! that enter and leave undo each other.
+//! rounded, the order of the refusals, what a round leaves behind, members who
+//! leave one, and lists of orders. The books are checked after each call: so is
+//! every match, that enter and leave undo each other, and that a list does what
+//! its orders do singly.
 
-use second::{answer_line, books, read_call, Exchange, Phase, Place};
+use second::chance::Chance;
+use second::{answer_line, books, read_call, Answer, Exchange, Order, Phase, Place};
 
 struct House {
     exchange: Exchange,
@@ -39,6 +41,18 @@ impl House {
         let (code, len) = answer_line(&mut self.exchange, number, call, &mut out);
         assert_eq!(books::check(&self.exchange), Ok(()), "{line}");
         (code, len, String::from_utf8(out).unwrap())
+    }
+
+    /// Works a list of orders with so many places: its own answer, and the
+    /// places after it.
+    fn list(&mut self, orders: &[Order], places: usize) -> (Answer, Vec<Answer>) {
+        let was = self.exchange.clone();
+        let before = places_before(places);
+        let mut after = before.clone();
+        let answer = self.exchange.order_list(orders, &mut after);
+        let told = books::check_list(&was, &self.exchange, orders, &before, &after, answer);
+        assert_eq!(told, Ok(()), "{orders:?}");
+        (answer, after)
     }
 
     /// Works call lines that must all be accepted.
@@ -686,4 +700,211 @@ fn a_leave_whose_answer_has_no_room() {
     assert_eq!(house.exchange, before);
     let long = (0, 11, "17,0,600,0\n".to_string() + &"#".repeat(89));
     assert_eq!(house.lent(17, "11,0,0", 100), long);
+}
+
+const ACCEPTED: Answer = Answer { code: 0, first: 0, second: 0 };
+const REFUSED: Answer = Answer { code: 22, first: 0, second: 0 };
+
+/// Places for answers, each with numbers of its own.
+fn places_before(places: usize) -> Vec<Answer> {
+    (0..places as u32).map(|first| Answer { code: 0, first, second: u32::MAX }).collect()
+}
+
+fn order([ticket, member, market, side, limit, amount]: [u32; 6]) -> Order {
+    Order { ticket, member, market, side, limit, amount }
+}
+
+/// Orders and their answers. Member 0 has 10 quote, member 1 has 5 of token 1.
+const MORNING: [([u32; 6], (u8, u32, u32)); 9] = [
+    ([0, 0, 1, 0, 3000000, 4], (0, 4, 0)),
+    ([0, 1, 1, 1, 1, 2], (7, 0, 0)),
+    ([1, 1, 1, 1, 1, 5], (0, 5, 0)),
+    ([2, 1, 1, 1, 1, 1], (19, 0, 0)),
+    ([64, 16, 0, 2, 0, 0], (1, 0, 0)),
+    ([64, 0, 4, 2, 0, 0], (3, 0, 0)),
+    ([3, 0, 1, 0, 2000000001, 1], (6, 0, 0)),
+    ([3, 0, 1, 0, 2000000000, 6], (0, 6, 0)),
+    ([4, 0, 1, 0, 1, 1], (19, 0, 0)),
+];
+
+fn morning_house() -> House {
+    let mut house = House::new();
+    house.calls(&["1,0,0,10", "1,1,1,5"]);
+    house
+}
+
+#[test]
+fn the_orders_of_a_morning() {
+    let orders = MORNING.map(|(fields, _)| order(fields));
+    let answers = MORNING.map(|(_, (code, first, second))| Answer { code, first, second });
+    let mut house = morning_house();
+    assert_eq!(house.list(&orders, 9), (ACCEPTED, answers.to_vec()));
+    assert_eq!(*house.exchange.balances(), [[0; 4]; 16]);
+    assert_eq!(house.exchange.tickets()[3].offer, 6);
+    assert_eq!(house.exchange.tickets()[4].place, Place::Free);
+
+    // Singly, and cut in two at every place.
+    let mut singly = morning_house();
+    for (fields, answer) in MORNING {
+        let [ticket, member, market, side, limit, amount] = fields;
+        let line = format!("3,{ticket},{member},{market},{side},{limit},{amount}");
+        assert_eq!(singly.call(&line), answer, "{line}");
+    }
+    assert_eq!(singly.exchange, house.exchange);
+    for cut in 0..=9 {
+        let mut parted = morning_house();
+        assert_eq!(parted.list(&orders[..cut], cut), (ACCEPTED, answers[..cut].to_vec()));
+        assert_eq!(parted.list(&orders[cut..], 9 - cut), (ACCEPTED, answers[cut..].to_vec()));
+        assert_eq!(parted.exchange, house.exchange);
+    }
+}
+
+#[test]
+fn a_list_whose_orders_are_all_refused_is_accepted() {
+    let mut house = morning_house();
+    let before = house.exchange.clone();
+    let orders = [order([0, 2, 1, 0, 1, 1]), order([63, 15, 3, 1, 0, 1])];
+    let refused = [19, 6].map(Answer::refused).to_vec();
+    assert_eq!(house.list(&orders, 2), (ACCEPTED, refused));
+    assert_eq!(house.exchange, before);
+}
+
+/// One unit each for the tickets from 0 on, of member 0.
+fn units(count: u32) -> Vec<Order> {
+    (0..count).map(|ticket| order([ticket, 0, 1, 0, 1, 1])).collect()
+}
+
+#[test]
+fn lists_of_every_length() {
+    let mut house = House::new();
+    house.calls(&["1,0,0,64"]);
+    let before = house.exchange.clone();
+    assert_eq!(house.list(&[], 0), (ACCEPTED, vec![]));
+    assert_eq!(house.exchange, before);
+    for orders in 0..=67 {
+        for places in 0..=67 {
+            let mut house = House { exchange: before.clone() };
+            let told = house.list(&units(orders), places);
+            if orders as usize == places && places <= 64 {
+                let unit = Answer { code: 0, first: 1, second: 0 };
+                assert_eq!(told, (ACCEPTED, vec![unit; places]));
+                assert_eq!(house.exchange.balances()[0][0], 64 - u64::from(orders));
+            } else {
+                assert_eq!(told, (REFUSED, places_before(places)), "{orders} {places}");
+                assert_eq!(house.exchange, before);
+            }
+        }
+    }
+}
+
+#[test]
+fn a_list_for_every_ticket() {
+    let mut house = House::new();
+    house.calls(&["1,0,0,64"]);
+    for (orders, places) in [(65, 65), (64, 65), (65, 64), (1, 0), (0, 1), (64, 63), (300, 300)] {
+        assert_eq!(house.list(&units(orders), places), (REFUSED, places_before(places)));
+    }
+    let unit = Answer { code: 0, first: 1, second: 0 };
+    assert_eq!(house.list(&units(64), 64), (ACCEPTED, vec![unit; 64]));
+    assert_eq!(house.exchange.balances()[0], [0; 4]);
+    assert!(house.exchange.tickets().iter().all(|held| held.offer == 1));
+    assert_eq!(house.list(&units(64), 64), (ACCEPTED, vec![Answer::refused(7); 64]));
+}
+
+#[test]
+fn the_largest_order_of_a_list() {
+    let mut house = House::new();
+    house.calls(&["1,15,3,4294967295"]);
+    let most = order([63, 15, 3, 1, 2000000000, u32::MAX]);
+    let one = Order { ticket: 62, amount: 1, ..most };
+    let nothing = order([u32::MAX; 6]);
+    let answers = [Answer { code: 0, first: u32::MAX, second: 0 }]
+        .into_iter()
+        .chain([19, 7, 1].map(Answer::refused))
+        .collect();
+    assert_eq!(house.list(&[most, one, most, nothing], 4), (ACCEPTED, answers));
+}
+
+#[test]
+fn a_list_while_rounds_go_on() {
+    let mut house = day_in_auction();
+    house.calls(&["1,2,1,1", "5,2,14,1000000,0,1"]);
+    // Tickets 0 and 1 are in the round of market 1.
+    let orders = [
+        order([0, 2, 1, 0, 1, 1]),
+        order([1, 2, 2, 0, 1, 1]),
+        order([2, 2, 1, 1, 1, 1]),
+        order([3, 2, 2, 0, 1000000, 500]),
+        order([4, 0, 1, 0, 1, 401]),
+    ];
+    let answers = [(7, 0), (7, 0), (0, 1), (0, 500), (19, 0)];
+    let answers = answers.map(|(code, first)| Answer { code, first, second: 0 }).to_vec();
+    assert_eq!(house.list(&orders, 5), (ACCEPTED, answers));
+    assert_eq!(house.exchange.last_block(), 14);
+    house.refused(11, "6,2");
+    assert_eq!(house.call("6,3"), (0, 500, 0));
+    house.calls(&["4,2,2", "9,1,25", "10,1", "10,0"]);
+}
+
+/// A house whose first members have a few units of each token.
+fn poor_house(chance: &mut Chance) -> House {
+    let mut house = House::new();
+    for member in [0, 1, 14, 15] {
+        for token in 0..4 {
+            let amount = chance.below(12);
+            if amount > 0 {
+                house.calls(&[&format!("1,{member},{token},{amount}")]);
+            }
+        }
+    }
+    house
+}
+
+/// An order of numbers that are often right.
+fn drawn_order(chance: &mut Chance) -> Order {
+    let ticket = match chance.below(12) {
+        0 => chance.pick(&[64, 65, u32::MAX]),
+        1 | 2 => chance.pick(&[0, 1, 62, 63]),
+        _ => chance.below(64) as u32,
+    };
+    let member = chance.pick(&[0, 0, 1, 1, 14, 15, 15, 16]);
+    let market = chance.pick(&[0, 1, 1, 2, 2, 3, 3, 3, 3, 4]);
+    let side = chance.pick(&[0, 0, 0, 0, 1, 1, 1, 1, 1, 2]);
+    let limit = chance.pick(&[0, 1, 2, 3000000, 3000000, 1999999999, 2000000000, 2000000001]);
+    let amount = chance.pick(&[0, 1, 1, 1, 1, 2, 2, 3, 4, u32::MAX]);
+    Order { ticket, member, market, side, limit, amount }
+}
+
+#[test]
+fn drawn_lists_do_what_their_orders_do_singly() {
+    let mut chance = Chance::new(1);
+    let mut met = [0; 20];
+    for _ in 0..3_000 {
+        let mut house = poor_house(&mut chance);
+        let mut singly = House { exchange: house.exchange.clone() };
+        let mut parted = House { exchange: house.exchange.clone() };
+        for _ in 0..3 {
+            let count = chance.pick(&[0, 1, 2, 5, 20, 63, 64]);
+            let orders: Vec<Order> = (0..count).map(|_| drawn_order(&mut chance)).collect();
+            let answers: Vec<Answer> =
+                orders.iter().map(|order| singly.exchange.call(order.call())).collect();
+            for answer in &answers {
+                met[usize::from(answer.code)] += 1;
+            }
+            let cut = chance.below(count as u64 + 1) as usize;
+            let (first, second) = orders.split_at(cut);
+            assert_eq!(parted.list(first, cut), (ACCEPTED, answers[..cut].to_vec()));
+            assert_eq!(parted.list(second, count - cut), (ACCEPTED, answers[cut..].to_vec()));
+            assert_eq!(house.list(&orders, count), (ACCEPTED, answers));
+            assert_eq!(house.exchange, singly.exchange);
+            assert_eq!(parted.exchange, singly.exchange);
+            // Refused, it does nothing.
+            let other = [count + 1, count.saturating_sub(1)][chance.below(2) as usize];
+            if other != count {
+                assert_eq!(house.list(&orders, other), (REFUSED, places_before(other)));
+                assert_eq!(house.exchange, singly.exchange);
+            }
+        }
+    }
+    assert!([0, 1, 3, 4, 5, 6, 7, 19].iter().all(|&code| met[code] > 1_000), "{met:?}");
 }

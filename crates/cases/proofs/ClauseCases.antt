@@ -226,7 +226,7 @@ past-refused =
 
 pub books-met : BooksMet
 unfolding history-computes
-books-met = whole-run (requests (Deposit 15 3 5 ∷ [])) .books
+books-met = whole-run (requests (Deposit 15 3 5 ∷ [])) .whole .books
 
 pub books-refused : BooksRefused
 unfolding history-computes

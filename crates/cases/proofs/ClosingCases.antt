@@ -15,8 +15,8 @@ use Rattle.model.specs.declared.call.Call.the-variants.{Settle, Claim}
 use Rattle.model.specs.declared.answer.Answer.the-variants.{Accepted}
 use Rattle.model.specs.State.{phase, isClosed, isAuction}
 use Rattle.model.specs.Answers.{codeOf}
-use Rattle.model.specs.Run.{stepOf}
-use Rattle.model.specs.Closing.{afterCalls, AllAccepted, next-call, times, Names, closingCalls}
+use Rattle.model.specs.Run.{stepOf, afterCalls}
+use Rattle.model.specs.Closing.{AllAccepted, next-call, times, Names, closingCalls}
 use Rattle.model.specs.Scripts.{callsOf}
 use Rattle.model.specs.Day.{dayOrders, dayCollect}
 use Rattle.cases.specs.Examples.{lastBlocks}

@@ -2,7 +2,8 @@
 use mathlib.Core.List.{_++_}
 use native.Mathlib.Omega.{arith}
 use Rattle.model.specs.State.{freshExchange}
-use Rattle.model.specs.Run.{requestOf, stateAfter}
+use Rattle.model.specs.Run.{requestOf}
+use Rattle.model.specs.Submissions.{modelEngine, stateAfter}
 use Rattle.model.specs.History.{logOf}
 use Rattle.model.specs.WholeRun.{All, LimitKept, RoundPays, EndedWell}
 use Rattle.model.specs.Scripts.{requests, callsOf}
@@ -14,31 +15,31 @@ use Rattle.cases.proofs.Fixes.{fixes-settled, fixes-paid, fixes-left, f
 use Rattle.model.proofs.Day.{has-round}
 use Rattle.model.proofs.WholeRun.{whole-run}
 
-pub model-settled : SettledFixed requestOf (stateAfter requestOf freshExchange (requests (callsOf (lastPlacesEnded ++ lastPlacesSettled))))
+pub model-settled : SettledFixed requestOf (stateAfter modelEngine freshExchange (requests (callsOf (lastPlacesEnded ++ lastPlacesSettled))))
 unfolding told lastPlacesEnded lastPlacesSettled callsOf history-computes
-model-settled = fixes-settled requestOf _ (whole-run (requests (callsOf (lastPlacesEnded ++ lastPlacesSettled))))
+model-settled = fixes-settled requestOf _ (whole-run (requests (callsOf (lastPlacesEnded ++ lastPlacesSettled))) .whole)
 
-pub model-paid : PaidFixed (stateAfter requestOf freshExchange (requests (callsOf lastPlaces)))
+pub model-paid : PaidFixed (stateAfter modelEngine freshExchange (requests (callsOf lastPlaces)))
 unfolding told lastPlacesEnded lastPlacesSettled lastPlacesPaid callsOf history-computes
-model-paid = fixes-paid requestOf _ (whole-run (requests (callsOf lastPlaces)))
+model-paid = fixes-paid requestOf _ (whole-run (requests (callsOf lastPlaces)) .whole)
 
-pub model-left : LeftFixed (stateAfter requestOf freshExchange (requests (callsOf sellsLeft)))
+pub model-left : LeftFixed (stateAfter modelEngine freshExchange (requests (callsOf sellsLeft)))
 unfolding told sellsLeft callsOf history-computes
-model-left = fixes-left requestOf _ (whole-run (requests (callsOf sellsLeft)))
+model-left = fixes-left requestOf _ (whole-run (requests (callsOf sellsLeft)) .whole)
 
-pub model-day : DayFixed requestOf (stateAfter requestOf freshExchange (requests untilSettle))
+pub model-day : DayFixed requestOf (stateAfter modelEngine freshExchange (requests untilSettle))
 unfolding answered dayOrders dayCollect dayAuction printed history-computes
-model-day = fixes-day requestOf _ (whole-run (requests untilSettle))
+model-day = fixes-day requestOf _ (whole-run (requests untilSettle) .whole)
 
 -- and its rounds pay: the one with a claim of 4 and 3 made and another to come, and the three that ended
 pub round-pays : RoundPays (logOf (toldSettled .rounds 3))
 unfolding told lastPlacesEnded lastPlacesSettled callsOf history-computes
-round-pays = whole-run (requests (callsOf (lastPlacesEnded ++ lastPlacesSettled))) .rounds .solvent 3 (omega arith) (omega arith) _ (has-round (toldSettled .rounds 3) tt)
+round-pays = whole-run (requests (callsOf (lastPlacesEnded ++ lastPlacesSettled))) .whole .rounds .solvent 3 (omega arith) (omega arith) _ (has-round (toldSettled .rounds 3) tt)
 
 pub ended-well : All EndedWell (toldPaid .ended)
 unfolding told lastPlacesEnded lastPlacesSettled lastPlacesPaid callsOf history-computes
-ended-well = whole-run (requests (callsOf lastPlaces)) .past .ended-well
+ended-well = whole-run (requests (callsOf lastPlaces)) .whole .past .ended-well
 
 pub limits-kept : All LimitKept (toldPaid .payouts)
 unfolding told lastPlacesEnded lastPlacesSettled lastPlacesPaid callsOf history-computes
-limits-kept = whole-run (requests (callsOf lastPlaces)) .past .limits
+limits-kept = whole-run (requests (callsOf lastPlaces)) .whole .past .limits

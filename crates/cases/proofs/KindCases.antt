@@ -89,7 +89,7 @@ pub rooms-used : (x : Exchange) → RoomsUsed x
 rooms-used x = record { claim = claim-room x; leave = leave-room x }
 
 -- "1" to "21"
-pub refusals-numbered : map refusalCode refusals ≡ numbersFrom 21 1
+pub refusals-numbered : map refusalCode refusals ≡ numbersFrom 22 1
 unfolding refusals numbersFrom
 refusals-numbered = refl
 

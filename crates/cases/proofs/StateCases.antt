@@ -11,7 +11,8 @@ use Rattle.model.specs.declared.state.TicketState.{TicketState}
 use Rattle.model.specs.declared.call.Call.the-variants.{Enter, Leave}
 use Rattle.model.specs.State.{freshExchange, blankRound, orderIn, restingOr, phase, roundIn, totalsOf}
 use Rattle.model.specs.Calls.{accept}
-use Rattle.model.specs.Run.{stepOf, requestOf, eventsOf}
+use Rattle.model.specs.Run.{stepOf, requestOf}
+use Rattle.model.specs.Submissions.{single, modelEngine, eventsOf}
 use Rattle.model.specs.History.{absent, historyOf}
 use Rattle.model.specs.WholeRun.{partIn}
 use Rattle.cases.specs.Literals.{order}
@@ -86,7 +87,7 @@ enter-leave-used =
           subst (λ (t : Totals). stepOf (stepOf x (Leave 63 15) .exchange) (Enter 63) ≡ accept (t .total .0) 0 x) g
           (subst (λ (t : TicketState). stepOf (stepOf x (Leave 63 15) .exchange) (Enter 63) ≡ accept (totalsOf (roundIn (phase x (orderIn t .market))) (orderIn t .side) .total .0) 0 x) e (h x r 63 15 170 0 a));
       left-absent = λ h qs a b e l.
-          subst (λ (t : TicketState). partIn (historyOf (eventsOf requestOf freshExchange (qs ++ (leaving ∷ []))) .rounds (orderIn t .market)) 63 ≡ absent) e
+          subst (λ (t : TicketState). partIn (historyOf (eventsOf modelEngine freshExchange (qs ++ (single leaving ∷ []))) .rounds (orderIn t .market)) 63 ≡ absent) e
           (h qs leaving 63 15 refl a b l);
       enter-forgotten = λ h qs. h qs entering leaving 63 15 refl refl;
     }

@@ -10,8 +10,8 @@ use Rattle.model.specs.declared.state.Exchange.{Exchange}
 use Rattle.model.specs.declared.call.Call.the-variants.{Open, Bid, Settle, Claim}
 use Rattle.model.specs.declared.answer.Answer.the-variants.{Accepted}
 use Rattle.model.specs.State.{phase, roundIn, lastBlock, blankRound, withTickets, withPhase, freshExchange}
-use Rattle.model.specs.Run.{stepOf, Reachable}
-use Rattle.model.specs.Closing.{afterCalls, AllAccepted, Names, BackToClosed, WindsUp, CanClose, SettleCloses}
+use Rattle.model.specs.Run.{stepOf, Reachable, afterCalls}
+use Rattle.model.specs.Closing.{AllAccepted, Names, BackToClosed, WindsUp, CanClose, SettleCloses}
 use Rattle.model.specs.Scripts.{callsOf}
 use Rattle.model.specs.Day.{untilMatch}
 use Rattle.cases.specs.Examples.{lastBlocks}

@@ -123,7 +123,7 @@ pub record RoomsUsed (x : Exchange) : Type 0 where
 
 -- ---- answers
 
--- "Why a call is turned down", from 1 to 21
+-- "Why a call is turned down", from 1 to 21, and 22 of document 02
 unfoldable pub refusals : List Refusal
 refusals =
     Refusal.NoSuchMember
@@ -147,6 +147,7 @@ refusals =
     ∷ Refusal.InsufficientBalance
     ∷ Refusal.MalformedLine
     ∷ Refusal.BufferTooShort
+    ∷ Refusal.BadOrderList
     ∷ []
 
 -- an answer's code and numbers, and its line

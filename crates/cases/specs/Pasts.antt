@@ -9,7 +9,7 @@ use Rattle.model.specs.declared.state.TicketState.the-variants.{Resting}
 use Rattle.model.specs.declared.state.Exchange.{Exchange}
 use Rattle.model.specs.declared.call.Call.{Call}
 use Rattle.model.specs.State.{balance, residue, freshExchange}
-use Rattle.model.specs.Run.{requestOf, stateAfter}
+use Rattle.model.specs.Submissions.{modelEngine, stateAfter}
 use Rattle.model.specs.declared.call.Call.the-variants.{Deposit, Order, Settle, Claim}
 use Rattle.model.specs.History.{waiting, claimed, Stage, collecting, auctioning, settled, RoundLog, emptyLog, setPart, withBid, T, P, G, ticketCount, waitingCount, Current, idle, running, Payout, EndedRound, History}
 use Rattle.model.specs.WholeRun.{balances, resting, inRounds, holdsOf}
@@ -115,7 +115,7 @@ pastAs p x y =
     (map (λ (m : MemberNumbers). memberIn x y (m .member) (m .token)) (p .members))
 
 unfoldable pub workedPast : Past → Past
-workedPast p = pastAs p (stateAfter requestOf freshExchange (requests (p .calls))) (historyAfter (p .calls))
+workedPast p = pastAs p (stateAfter modelEngine freshExchange (requests (p .calls))) (historyAfter (p .calls))
 
 -- ---- the runs
 

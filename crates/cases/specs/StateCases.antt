@@ -18,7 +18,8 @@ use Rattle.model.specs.declared.answer.Answer.the-variants.{Accepted}
 use Rattle.model.specs.State.{isFree, isEntered, isClosed, isCollect, isAuction, isPaying}
 use Rattle.model.specs.State.{withStart, withTickets, withBuys, withSells, withQuote, withBase, withSides, withHeld, openedBetween, blankRound, balance, supply, residue, lastBlock, ticket, orderIn, phase, roundIn, withSupply, withResidue, withTicket, withPhase, withBlock, credit, debit, toResidue, freshExchange}
 use Rattle.model.specs.Calls.{accept, leftRound}
-use Rattle.model.specs.Run.{stepOf, Reachable, Request, requestOf, eventsOf, stateAfter}
+use Rattle.model.specs.Run.{stepOf, Reachable, Request, requestOf}
+use Rattle.model.specs.Submissions.{Submission, single, modelEngine, eventsOf, stateAfter}
 use Rattle.model.specs.History.{absent, historyOf}
 use Rattle.model.specs.WholeRun.{partIn}
 use Rattle.model.specs.EnterLeave.{EnterLeave, LeaveEnter, LeftAbsent, EnterForgotten}
@@ -153,17 +154,17 @@ leaving = record { line = 41; room = 11; call = Leave 63 15 }
 
 abbrev pub LeavesAbsent : Type 0
 LeavesAbsent =
-    (qs : List Request) (a b : ℕ)
-    → let x : Exchange = stateAfter requestOf freshExchange qs in
+    (ss : List Submission) (a b : ℕ)
+    → let x : Exchange = stateAfter modelEngine freshExchange ss in
     ticket x 63 ≡ Entered (order 15 3 Sell 2250000 170) → requestOf x leaving .answer ≡ Accepted a b
-    → partIn (historyOf (eventsOf requestOf freshExchange (qs ++ (leaving ∷ []))) .rounds 3) 63 ≡ absent
+    → partIn (historyOf (eventsOf modelEngine freshExchange (ss ++ (single leaving ∷ []))) .rounds 3) 63 ≡ absent
 
 abbrev pub EntersForgotten : Type 0
 EntersForgotten =
-    (qs : List Request) (a b c d : ℕ)
-    → let x : Exchange = stateAfter requestOf freshExchange qs in
+    (ss : List Submission) (a b c d : ℕ)
+    → let x : Exchange = stateAfter modelEngine freshExchange ss in
     requestOf x entering .answer ≡ Accepted a b → requestOf (requestOf x entering .exchange) leaving .answer ≡ Accepted c d
-    → historyOf (eventsOf requestOf freshExchange (qs ++ (entering ∷ leaving ∷ []))) ≡ historyOf (eventsOf requestOf freshExchange qs)
+    → historyOf (eventsOf modelEngine freshExchange (ss ++ (single entering ∷ single leaving ∷ []))) ≡ historyOf (eventsOf modelEngine freshExchange ss)
 
 pub record EnterLeaveUsed : Type 0 where
   pub enter-leave : EnterLeave → EntersAndLeaves

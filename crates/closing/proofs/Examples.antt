@@ -11,9 +11,9 @@ use Rattle.model.specs.declared.call.Call.the-variants as Call
 use Rattle.model.specs.declared.answer.Answer.the-variants.{Accepted}
 use Rattle.model.specs.State.{freshExchange, isPaying, phase}
 use Rattle.model.specs.Answers.{codeOf, firstOf, secondOf}
-use Rattle.model.specs.Run.{Reachable, stepOf}
+use Rattle.model.specs.Run.{Reachable, stepOf, afterCalls}
 use Rattle.model.specs.Scripts.{historyAfter, requests}
-use Rattle.model.specs.Closing.{AllAccepted, afterCalls, closingCalls}
+use Rattle.model.specs.Closing.{AllAccepted, closingCalls}
 use Rattle.model.specs.Day.{dayOrders, dayCollect}
 use Rattle.model.proofs.Computing.{call-computes, run-computes}
 use Rattle.closing.specs.Closings.{PayingClaims, SettledCloses, markedIn, nextMarked, claimsNamed, hostCalls}

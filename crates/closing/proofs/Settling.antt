@@ -18,7 +18,8 @@ use Rattle.model.specs.declared.answer.Refusal.the-variants.{BufferTooShort}
 use Rattle.model.specs.State.{freshExchange, isAuction, isClosed, phase, roundIn}
 use Rattle.model.specs.Answers.{answerLine, firstOf, secondOf}
 use Rattle.model.specs.Calls.{refuse, settleTests}
-use Rattle.model.specs.Run.{Request, eventsOf, requestOf, stateAfter, stepOf}
+use Rattle.model.specs.Run.{Request, requestOf, stepOf}
+use Rattle.model.specs.Submissions.{eventsOf, modelEngine, stateAfter}
 use Rattle.model.specs.History.{History, RoundLog, auctioning, historyOf, logOf, noHistory, running}
 use Rattle.model.proofs.Frames.{inside}
 use Rattle.model.proofs.Inv.{Inv, MarketOk, RoundOk, auction-is, running-is}
@@ -61,7 +62,7 @@ step-accepted x q a b = go (ltb (q .room) (length (answerLine (q .line) (stepOf 
     go false e = e
 
 pub settles-tell : SettlesTell
-settles-tell qs q market at quote base c e =
-    let x : Exchange = stateAfter requestOf freshExchange qs in
-    step-tells x (historyOf (eventsOf requestOf freshExchange qs)) (run-keeps freshExchange noHistory fresh-inv qs) market at quote base
+settles-tell ss q market at quote base c e =
+    let x : Exchange = stateAfter modelEngine freshExchange ss in
+    step-tells x (historyOf (eventsOf modelEngine freshExchange ss)) (run-keeps freshExchange noHistory fresh-inv ss) market at quote base
     (sym (ap (λ (v : Call). stepOf x v .answer) c) ∙ step-accepted x q quote base e)

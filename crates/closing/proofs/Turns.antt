@@ -27,8 +27,8 @@ use Rattle.model.specs.State.{closedMarket, isPaying, phase, roundIn}
 use Rattle.model.specs.Answers.{codeOf, firstOf, secondOf}
 use Rattle.model.specs.Bounds.{PhaseBounds}
 use Rattle.model.specs.Calls.{marketForm, settledPhase}
-use Rattle.model.specs.Run.{Reachable, stepOf}
-use Rattle.model.specs.Closing.{AllAccepted, BackToClosed, afterCalls, closingCalls}
+use Rattle.model.specs.Run.{Reachable, stepOf, afterCalls}
+use Rattle.model.specs.Closing.{AllAccepted, BackToClosed, closingCalls}
 use Rattle.model.proofs.Inv.{paying-is}
 use Rattle.model.proofs.Reach.{reachable-inv}
 use Rattle.model.proofs.ReachBounds.{reachable-bounded}

@@ -6,8 +6,7 @@ use Rattle.model.specs.declared.call.Call.{Call}
 use Rattle.model.specs.declared.call.Call.the-variants.{Deposit, Order, Open, Enter, Match, Bid, Settle, Claim}
 use Rattle.model.specs.State.{freshExchange}
 use Rattle.model.specs.Answers.{codeOf, firstOf, secondOf}
-use Rattle.model.specs.Run.{Request, stepOf}
-use Rattle.model.specs.Closing.{afterCalls}
+use Rattle.model.specs.Run.{Request, stepOf, afterCalls}
 use Rattle.model.specs.Day.{untilMatch}
 use Rattle.pricing.specs.declared.Side.{Side}
 use Rattle.model.specs.Sides.{bySide}

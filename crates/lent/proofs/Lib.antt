@@ -1,3 +1,4 @@
 pub mod LineWalk
+pub mod ListWalk
 pub mod StepWalk
 pub mod Values

@@ -5,11 +5,15 @@ ghost use lib.ListN.{length};
 ghost use Rattle.decimal.specs.Buffer.{putInto};
 ghost use Rattle.lines.specs.AnswerText.{longestAnswer};
 ghost use Rattle.model.specs.Run.{Reachable, stepOf};
+ghost use Rattle.model.specs.OrderLists.{ordersOf};
 ghost use Rattle.replay.specs.Lines.{lineText, takenOf};
 use exchange::step;
 use model::answer::Answer;
 use model::call::Call;
+use model::order_list::AnswerPlace;
+use model::order_list::OrderFields;
 use model::state::Exchange;
+use order_list::place_orders;
 use replay::line::Answered;
 use replay::line::take_line;
 
@@ -35,4 +39,21 @@ pub fn take_line_lent(x: &mut Exchange, number: u32, line: &[u8], out: &mut [u8]
     let t = take_line(*x, number, line, out);
     *x = t.exchange;
     t.answered
+}
+
+// A list of orders: the call's own answer. The orders' answers are in their places, x is the state after them. 22 where the lists differ in length or have
+// more than 64 places: x and answers stay as they are.
+pub fn place_orders_lent(
+    x: &mut Exchange,
+    list: &[OrderFields],
+    answers: &mut [AnswerPlace],
+) -> Answer
+    requires { ⌜ Reachable (now x) ⌝ }
+    ensures { λ r. ⌜ (r ≡ ordersOf (now (x .entry)) (now (list .entry)) (now (answers .entry)) .answer)
+        × (now (x .exit) ≡ ordersOf (now (x .entry)) (now (list .entry)) (now (answers .entry)) .exchange)
+        × (now (answers .exit) ≡ ordersOf (now (x .entry)) (now (list .entry)) (now (answers .entry)) .answers) ⌝ }
+{
+    let o = place_orders(*x, list, answers);
+    *x = o.exchange;
+    o.answer
 }

@@ -65,6 +65,7 @@ refusal-bound Refusal.BoundMissed = lit< tt
 refusal-bound Refusal.InsufficientBalance = lit< tt
 refusal-bound Refusal.MalformedLine = lit< tt
 refusal-bound Refusal.BufferTooShort = lit< tt
+refusal-bound Refusal.BadOrderList = lit< tt
 
 one-digit : length (digits 0) ≡ 1
 unfolding digits

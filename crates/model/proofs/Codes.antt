@@ -59,3 +59,4 @@ refusal-code Refusal.BoundMissed = omega arith
 refusal-code Refusal.InsufficientBalance = omega arith
 refusal-code Refusal.MalformedLine = omega arith
 refusal-code Refusal.BufferTooShort = omega arith
+refusal-code Refusal.BadOrderList = omega arith

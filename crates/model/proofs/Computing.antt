@@ -6,7 +6,8 @@ use Rattle.ticket_set.specs.TicketSet.{bit, inserted, removed, countOf}
 use Rattle.pricing.specs.Prices.{highBound, lowBound, matchBase, matchQuote, lowerQuote, tradeWithin, auctionPrice, quoteFor, sharePaid, shareGot}
 use Rattle.ledger.specs.Balances.{cellOf, withCell, creditedRow, debitedRow, rowOf, withRow, balanceIn, credited, debited, totalIn, freshLedger}
 use Rattle.model.specs.Answers.{answerLine}
-use Rattle.model.specs.Run.{stepOf, requestOf, eventsOf, stateAfter}
+use Rattle.model.specs.Run.{stepOf, requestOf}
+use Rattle.model.specs.Submissions.{eventsOf, stateAfter}
 use Rattle.model.specs.History.{put, withAccepted, withEvent, historyFrom}
 use Rattle.model.specs.WholeRun.{restingTotal, roundsTotal}
 use Rattle.model.specs.Scripts.{requestsFrom}

@@ -4,7 +4,7 @@ use mathlib.Core.List.{[], _∷_, map}
 use native.Mathlib.Omega.{arith}
 use Rattle.pricing.specs.declared.Side.the-variants.{Buy, Sell}
 use Rattle.model.specs.State.{freshExchange}
-use Rattle.model.specs.Run.{requestOf, eventsOf}
+use Rattle.model.specs.Submissions.{modelEngine, eventsOf}
 use Rattle.model.specs.History.{Current, idle, running, logOf}
 use Rattle.model.specs.WholeRun.{SettledTicket}
 use Rattle.model.specs.Scripts.{requests, historyAfter, logAfter, shareFrom, workedAccounts, summed, depositsIn, workedMember}
@@ -17,7 +17,7 @@ unfolding dayOrders dayCollect dayAuction dayClaims printed shortAtOpen run-comp
 day-printed = refl
 
 -- and the printed bytes
-pub day-lines : linesFrom 1 (eventsOf requestOf freshExchange (requests day)) ≡ printedLines
+pub day-lines : linesFrom 1 (eventsOf modelEngine freshExchange (requests day)) ≡ printedLines
 unfolding dayOrders dayCollect dayAuction dayClaims linesFrom printedLines run-computes
 day-lines = refl
 

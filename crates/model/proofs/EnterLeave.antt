@@ -13,7 +13,8 @@ use Rattle.model.specs.Bounds.{Bounded, CollectBounds, EnteredBounds, Or
 use Rattle.model.specs.Calls.{accept, cancelForm, enterRest, enterTests, enterWith, enteredRound, leaveRest, leaveTests, leaveWith, leftRound, refuse, ticketForm}
 use Rattle.model.specs.EnterLeave.{EnterForgotten, EnterLeave, LeaveEnter, LeftAbsent}
 use Rattle.model.specs.History.{Current, History, Part, PlacedOrder, RoundLog, Stage, absent, auctioning, changedAt, collecting, historyFrom, historyOf, idle, logOf, marketIn, noHistory, partOf, put, running, setPart, setRounds, setStage, settled, withAccepted, withEnter, withEvent, withLeave, withPart}
-use Rattle.model.specs.Run.{Request, eventsOf, requestOf, stateAfter, stepOf}
+use Rattle.model.specs.Run.{Request, requestOf, stepOf}
+use Rattle.model.specs.Submissions.{Submission, eventsOf, leftBy, modelEngine, single, stateAfter, toldBy}
 use Rattle.model.specs.State.{closedMarket, freeTicket, freshExchange, marketAt, orderIn, phase, roundIn, setMarket, setMarkets, setTickets, ticket, totalsOf, withHeld, withPhase, withSides, withTicket, withTickets}
 use Rattle.model.specs.WholeRun.{partIn, placedIn}
 use Rattle.model.specs.declared.answer.Answer.{Answer}
@@ -43,7 +44,7 @@ use Rattle.model.proofs.Reach.{reachable-inv}
 use Rattle.model.proofs.ReachBounds.{reachable-bounded}
 use Rattle.model.proofs.Reading.{phase-same, put-each, put-other, put-same, ticket-same}
 use Rattle.model.proofs.Steps.{accepted-passed, step-passed}
-use Rattle.model.proofs.WholeRun.{fresh-inv, run-keeps}
+use Rattle.model.proofs.WholeRun.{fresh-inv, run-keeps, told-after}
 use Rattle.ticket_set.proofs.Bits.{inserted-removed, removed-inserted}
 use Rattle.units.proofs.Decide.{Passed}
 
@@ -238,21 +239,25 @@ request-accepted x q a b = go (ltb (q .room) (length (answerLine (q .line) (step
     go false e = e
 
 -- history of a list, and of what comes after it
-told-more : (x : Exchange) (y : History) (qs rs : List Request)
-    → historyFrom y (eventsOf requestOf x (qs ++ rs)) ≡ historyFrom (historyFrom y (eventsOf requestOf x qs)) (eventsOf requestOf (stateAfter requestOf x qs) rs)
+told-more : (x : Exchange) (y : History) (ss rs : List Submission)
+    → historyFrom y (eventsOf modelEngine x (ss ++ rs)) ≡ historyFrom (historyFrom y (eventsOf modelEngine x ss)) (eventsOf modelEngine (stateAfter modelEngine x ss) rs)
 unfolding historyFrom eventsOf stateAfter
 told-more x y [] rs = refl
-told-more x y (q ∷ qs) rs = told-more (requestOf x q .exchange) (withEvent y (q .call) (requestOf x q .answer)) qs rs
+told-more x y (s ∷ ss) rs =
+    told-after y (toldBy modelEngine x s) (eventsOf modelEngine (leftBy modelEngine x s) (ss ++ rs))
+    ∙ told-more (leftBy modelEngine x s) (historyFrom y (toldBy modelEngine x s)) ss rs
+    ∙ ap (λ (v : History). historyFrom v (eventsOf modelEngine (stateAfter modelEngine (leftBy modelEngine x s) ss) rs))
+    (sym (told-after y (toldBy modelEngine x s) (eventsOf modelEngine (leftBy modelEngine x s) ss)))
 
 -- of one request more, and of two, whose calls and answers are known
 one-told : (x : Exchange) (y : History) (q : Request) (c : Call) (s : Answer) → q .call ≡ c → requestOf x q .answer ≡ s
-    → historyFrom y (eventsOf requestOf x (q ∷ [])) ≡ withEvent y c s
+    → historyFrom y (eventsOf modelEngine x (single q ∷ [])) ≡ withEvent y c s
 unfolding historyFrom eventsOf
 one-told x y q c s ec es = ap₂ (withEvent y) ec es
 
 two-told : (x : Exchange) (y : History) (p q : Request) (c d : Call) (s t : Answer)
     → p .call ≡ c → q .call ≡ d → requestOf x p .answer ≡ s → requestOf (requestOf x p .exchange) q .answer ≡ t
-    → historyFrom y (eventsOf requestOf x (p ∷ q ∷ [])) ≡ withEvent (withEvent y c s) d t
+    → historyFrom y (eventsOf modelEngine x (single p ∷ single q ∷ [])) ≡ withEvent (withEvent y c s) d t
 unfolding historyFrom eventsOf
 two-told x y p q c d s t ec ed es et =
     one-told (requestOf x p .exchange) (withEvent y (p .call) (requestOf x p .answer)) q d t ed et
@@ -261,20 +266,20 @@ two-told x y p q c d s t ec ed es et =
 -- of a leave after a list, and of an enter and a leave after it
 pub left-absent : LeftAbsent
 unfolding withEvent withAccepted
-left-absent qs leave k member el a b la =
-    let x : Exchange = stateAfter requestOf freshExchange qs in
-    let y : History = historyOf (eventsOf requestOf freshExchange qs) in
+left-absent ss leave k member el a b la =
+    let x : Exchange = stateAfter modelEngine freshExchange ss in
+    let y : History = historyOf (eventsOf modelEngine freshExchange ss) in
     let e : stepOf x (Call.Leave k member) .answer ≡ Accepted a b = subst (λ (v : Call). stepOf x v .answer ≡ Accepted a b) el (request-accepted x leave a b la) in
     ap (λ (v : History). partIn (v .rounds (order x k .market)) k)
-    (told-more freshExchange noHistory qs (leave ∷ []) ∙ one-told x y leave (Call.Leave k member) (Accepted a b) el la)
-    ∙ leaves-absent x y (run-keeps freshExchange noHistory fresh-inv qs) k member (accepted-passed x (Call.Leave k member) a b e)
+    (told-more freshExchange noHistory ss (single leave ∷ []) ∙ one-told x y leave (Call.Leave k member) (Accepted a b) el la)
+    ∙ leaves-absent x y (run-keeps freshExchange noHistory fresh-inv ss) k member (accepted-passed x (Call.Leave k member) a b e)
 
 pub enter-forgotten : EnterForgotten
 unfolding withEvent withAccepted
-enter-forgotten qs enter leave k member ee el a b c d ea la =
-    let x : Exchange = stateAfter requestOf freshExchange qs in
-    let y : History = historyOf (eventsOf requestOf freshExchange qs) in
+enter-forgotten ss enter leave k member ee el a b c d ea la =
+    let x : Exchange = stateAfter modelEngine freshExchange ss in
+    let y : History = historyOf (eventsOf modelEngine freshExchange ss) in
     let e : stepOf x (Call.Enter k) .answer ≡ Accepted a b = subst (λ (v : Call). stepOf x v .answer ≡ Accepted a b) ee (request-accepted x enter a b ea) in
-    told-more freshExchange noHistory qs (enter ∷ leave ∷ [])
+    told-more freshExchange noHistory ss (single enter ∷ single leave ∷ [])
     ∙ two-told x y enter leave (Call.Enter k) (Call.Leave k member) (Accepted a b) (Accepted c d) ee el ea la
-    ∙ enters-forgotten x y (run-keeps freshExchange noHistory fresh-inv qs) k (accepted-passed x (Call.Enter k) a b e)
+    ∙ enters-forgotten x y (run-keeps freshExchange noHistory fresh-inv ss) k (accepted-passed x (Call.Enter k) a b e)

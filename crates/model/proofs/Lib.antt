@@ -17,6 +17,7 @@ pub mod KeepsMatch
 pub mod KeepsBid
 pub mod KeepsSettle
 pub mod KeepsClaim
+pub mod OrderLists
 pub mod WholeRun
 pub mod Reach
 pub mod ReachClock

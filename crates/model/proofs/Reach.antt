@@ -1,4 +1,4 @@
--- The states that calls can leave: some history fits each of them, and they are the states that lists of requests leave.
+-- The states that calls can leave: some history fits each of them, and they are the states that lists of submissions leave.
 use mathlib.Core.Bool.{Bool, cond, false, true}
 use mathlib.Core.List.{List, [], _++_, _∷_}
 use mathlib.Core.Path.{_∙_, _≡_, ap, refl, subst}
@@ -8,7 +8,8 @@ use lib.ListN.{length}
 use Rattle.model.specs.Answers.{answerLine}
 use Rattle.model.specs.Calls.{refuse}
 use Rattle.model.specs.History.{History, noHistory, withEvent}
-use Rattle.model.specs.Run.{LeftByRequests, Reachable, ReachableIsRun, Request, after-call, at-first, requestOf, stateAfter, stepOf}
+use Rattle.model.specs.Run.{Reachable, Request, after-call, at-first, requestOf, stepOf}
+use Rattle.model.specs.Submissions.{LeftByList, ReachableIsRun, Submission, leftBy, modelEngine, orderList, single, stateAfter}
 use Rattle.model.specs.State.{freshExchange}
 use Rattle.model.specs.declared.answer.Outcome.{Outcome}
 use Rattle.model.specs.declared.answer.Refusal.the-variants.{BufferTooShort}
@@ -16,6 +17,7 @@ use Rattle.model.specs.declared.call.Call.{Call}
 use Rattle.model.specs.declared.state.Exchange.{Exchange}
 use Rattle.model.proofs.Codes.{rooms-first}
 use Rattle.model.proofs.Inv.{Inv}
+use Rattle.model.proofs.OrderLists.{orders-reachable}
 use Rattle.model.proofs.WholeRun.{fresh-inv, step-keeps}
 
 pub reachable-inv : {x : Exchange} → Reachable x → (y : History) × Inv x y
@@ -24,7 +26,7 @@ reachable-inv (after-call {x} l c) =
     let p = reachable-inv l in
     (withEvent (p .0) c (stepOf x c .answer), step-keeps x (p .0) (p .1) c)
 
--- ---- by calls and by requests
+-- ---- by calls and by submissions
 
 reachable-request : (x : Exchange) → Reachable x → (q : Request) → Reachable (requestOf x q .exchange)
 unfolding requestOf
@@ -34,15 +36,19 @@ reachable-request x l q = go (ltb (q .room) (length (answerLine (q .line) (stepO
     go true = l
     go false = after-call l (q .call)
 
-reachable-from : (x : Exchange) → Reachable x → (qs : List Request) → Reachable (stateAfter requestOf x qs)
+reachable-submission : (x : Exchange) → Reachable x → (s : Submission) → Reachable (leftBy modelEngine x s)
+reachable-submission x l (single q) = reachable-request x l q
+reachable-submission x l (orderList fs ps) = orders-reachable x l fs ps
+
+reachable-from : (x : Exchange) → Reachable x → (ss : List Submission) → Reachable (stateAfter modelEngine x ss)
 unfolding stateAfter
 reachable-from x l [] = l
-reachable-from x l (q ∷ qs) = reachable-from (requestOf x q .exchange) (reachable-request x l q) qs
+reachable-from x l (s ∷ ss) = reachable-from (leftBy modelEngine x s) (reachable-submission x l s) ss
 
-after-more : (x : Exchange) (qs : List Request) (q : Request) → stateAfter requestOf x (qs ++ (q ∷ [])) ≡ requestOf (stateAfter requestOf x qs) q .exchange
+after-more : (x : Exchange) (ss : List Submission) (s : Submission) → stateAfter modelEngine x (ss ++ (s ∷ [])) ≡ leftBy modelEngine (stateAfter modelEngine x ss) s
 unfolding stateAfter
-after-more x [] q = refl
-after-more x (p ∷ qs) q = after-more (requestOf x p .exchange) qs q
+after-more x [] s = refl
+after-more x (r ∷ ss) s = after-more (leftBy modelEngine x r) ss s
 
 -- a call with exactly enough room
 roomy : Exchange → Call → Request
@@ -52,16 +58,16 @@ roomy-steps : (x : Exchange) (c : Call) → requestOf x (roomy x c) ≡ stepOf x
 unfolding roomy
 roomy-steps x c = rooms-first x (roomy x c) .enough (le-refl (length (answerLine 1 (stepOf x c .answer))))
 
-no-requests : stateAfter requestOf freshExchange [] ≡ freshExchange
+no-submissions : stateAfter modelEngine freshExchange [] ≡ freshExchange
 unfolding stateAfter
-no-requests = refl
+no-submissions = refl
 
-run-to : {x : Exchange} → Reachable x → LeftByRequests x
-run-to at-first = ([], no-requests)
+run-to : {x : Exchange} → Reachable x → LeftByList x
+run-to at-first = ([], no-submissions)
 run-to (after-call {x} l c) =
     let p = run-to l in (
-      p .0 ++ (roomy x c ∷ []),
-      after-more freshExchange (p .0) (roomy x c)
+      p .0 ++ (single (roomy x c) ∷ []),
+      after-more freshExchange (p .0) (single (roomy x c))
           ∙ ap (λ (v : Exchange). requestOf v (roomy x c) .exchange) (p .1)
           ∙ ap (λ (o : Outcome). o .exchange) (roomy-steps x c),
     )

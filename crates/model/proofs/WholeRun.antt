@@ -1,7 +1,7 @@
 -- The whole-run theorem: the invariant holds after every list, and gives the statement.
 use Prim.Native.Nat.{_<_, _≤_, suc, zero, ℕ}
 use mathlib.Core.Bool.{Bool, cond, false, not, true}
-use mathlib.Core.List.{List, [], _∷_}
+use mathlib.Core.List.{List, [], _∷_, _++_}
 use mathlib.Core.Path.{_∙_, _≡_, ap, refl, subst, subst₂, sym}
 use native.Mathlib.Omega.{arith}
 use lib.Dec.{ltb}
@@ -11,14 +11,18 @@ use Rattle.model.specs.Answers.{answerLine, codeOf}
 use Rattle.model.specs.Bounds.{TicketBounds}
 use Rattle.model.specs.Calls.{claimWith, doneOf, refuse, testsOf}
 use Rattle.model.specs.History.{Current, History, RoundLog, OrderTerms, historyFrom, historyOf, idle, noHistory, running, settled, withEvent}
-use Rattle.model.specs.Run.{Request, eventsOf, requestOf, stateAfter, stepOf}
+use Rattle.model.specs.OrderLists.{Listed, listDone, listRefused, orderCall, ordersOf, placeOf}
+use Rattle.model.specs.Run.{Event, Request, afterCalls, answersToCalls, requestOf, stepOf}
+use Rattle.model.specs.Submissions.{Submission, eventsOf, leftBy, listTold, modelEngine, orderList, ordersTold, single, stateAfter, toldBy}
 use Rattle.model.specs.State.{closedMarket, freeTicket, freshExchange, isEntered, isFree, isPaying, orderIn, phase, roundIn, ticket}
-use Rattle.model.specs.WholeRun.{PaysOut, RoundPays, SettledTicket, Whole, WholeRun, enteredIn, gotBy, nil, orderWith, paidBy, partIn, placedIn, putBy, restingIn, restingTotal, roundsTotal, unclaimed}
+use Rattle.model.specs.WholeRun.{ListsKeep, PaysOut, RoundPays, SettledTicket, Whole, WholeRun, enteredIn, gotBy, nil, orderWith, paidBy, partIn, placedIn, putBy, restingIn, restingTotal, roundsTotal, unclaimed}
 use Rattle.model.specs.declared.answer.Answer.the-variants.{Accepted, Refused}
 use Rattle.model.specs.declared.answer.Outcome.{Outcome}
 use Rattle.model.specs.declared.answer.Refusal.{Refusal}
 use Rattle.model.specs.declared.answer.Refusal.the-variants.{BufferTooShort}
 use Rattle.model.specs.declared.call.Call.{Call}
+use Rattle.model.specs.declared.order_list.AnswerPlace.{AnswerPlace}
+use Rattle.model.specs.declared.order_list.OrderFields.{OrderFields}
 use Rattle.model.specs.declared.state.Exchange.{Exchange}
 use Rattle.model.specs.declared.state.Market.{Market}
 use Rattle.model.specs.declared.state.Order.{Order}
@@ -41,6 +45,7 @@ use Rattle.model.proofs.KeepsMatch.{match-keeps}
 use Rattle.model.proofs.KeepsOpen.{open-keeps}
 use Rattle.model.proofs.KeepsOrders.{cancel-keeps, order-keeps}
 use Rattle.model.proofs.KeepsSettle.{settle-keeps}
+use Rattle.model.proofs.OrderLists.{all-answered, list-apart}
 use Rattle.model.proofs.Rounds.{round-pays}
 use Rattle.model.proofs.Steps.{step-apart, step-passed}
 use Rattle.model.proofs.TicketOf.{entered-of}
@@ -77,10 +82,32 @@ request-keeps h y i q = go (ltb (q .room) (length (answerLine (q .line) (stepOf 
     go true = i
     go false = step-keeps h y i (q .call)
 
-pub run-keeps : (h : Exchange) (y : History) → Inv h y → (qs : List Request) → Inv (stateAfter requestOf h qs) (historyFrom y (eventsOf requestOf h qs))
+-- ---- every submission
+
+-- a list of orders, one after the other
+orders-keep : (h : Exchange) (y : History) → Inv h y → (fs : List OrderFields) → Inv (listDone h fs .exchange) (historyFrom y (ordersTold fs (listDone h fs .answers)))
+unfolding afterCalls answersToCalls ordersTold historyFrom
+orders-keep h y i [] = i
+orders-keep h y i (f ∷ fs) = orders-keep (stepOf h (orderCall f) .exchange) (withEvent y (orderCall f) (stepOf h (orderCall f) .answer)) (step-keeps h y i (orderCall f)) fs
+
+-- what is told of one thing after another
+pub told-after : (y : History) (es gs : List Event) → historyFrom y (es ++ gs) ≡ historyFrom (historyFrom y es) gs
+unfolding historyFrom
+told-after y [] gs = refl
+told-after y (e ∷ es) gs = told-after (withEvent y (e .call) (e .answer)) es gs
+
+submission-keeps : (h : Exchange) (y : History) → Inv h y → (s : Submission) → Inv (leftBy modelEngine h s) (historyFrom y (toldBy modelEngine h s))
+unfolding historyFrom
+submission-keeps h y i (single q) = request-keeps h y i q
+submission-keeps h y i (orderList fs ps) =
+    list-apart h fs ps (λ (l : Listed). Inv (l .exchange) (historyFrom y (listTold fs (l .answer) (l .answers)))) i (orders-keep h y i fs)
+
+pub run-keeps : (h : Exchange) (y : History) → Inv h y → (ss : List Submission) → Inv (stateAfter modelEngine h ss) (historyFrom y (eventsOf modelEngine h ss))
 unfolding stateAfter eventsOf historyFrom
 run-keeps h y i [] = i
-run-keeps h y i (q ∷ qs) = run-keeps (requestOf h q .exchange) (withEvent y (q .call) (requestOf h q .answer)) (request-keeps h y i q) qs
+run-keeps h y i (s ∷ ss) =
+    subst (Inv (stateAfter modelEngine (leftBy modelEngine h s) ss)) (sym (told-after y (toldBy modelEngine h s) (eventsOf modelEngine (leftBy modelEngine h s) ss)))
+    (run-keeps (leftBy modelEngine h s) (historyFrom y (toldBy modelEngine h s)) (submission-keeps h y i s) ss)
 
 -- ---- the fresh state
 
@@ -228,7 +255,27 @@ whole-of h y i =
           };
     }
 
+-- of lists of orders
+ListKeeps : Exchange → List OrderFields → List AnswerPlace → Listed → Type 0
+ListKeeps x fs ps l =
+    ((why : Refusal) → l .answer ≡ Refused why → (l .exchange ≡ x) × (l .answers ≡ ps)) × ((a b : ℕ) → l .answer ≡ Accepted a b → length (l .answers) ≡ length fs)
+
+list-keeps : (x : Exchange) (fs : List OrderFields) (ps : List AnswerPlace) → ListKeeps x fs ps (ordersOf x fs ps)
+unfolding ListKeeps
+list-keeps x fs ps =
+    list-apart x fs ps (ListKeeps x fs ps)
+    (λ why e. (refl, refl), λ a b e. absurd (let z : _≡_ {A = ℕ} 0 1 = cc (e) in omega arith))
+    (λ why e. absurd (let z : _≡_ {A = ℕ} 0 1 = cc (e) in omega arith), λ a b e. all-answered x fs)
+
+lists-keep : (x : Exchange) → ListsKeep ordersOf x
+unfolding ListKeeps
+lists-keep x = record { refused-leaves = λ fs ps. list-keeps x fs ps .0; all-answered = λ fs ps. list-keeps x fs ps .1 }
+
 -- ---- the theorem
 
 pub whole-run : WholeRun
-whole-run qs = whole-of (stateAfter requestOf freshExchange qs) (historyOf (eventsOf requestOf freshExchange qs)) (run-keeps freshExchange noHistory fresh-inv qs)
+whole-run ss =
+    record {
+      whole = whole-of (stateAfter modelEngine freshExchange ss) (historyOf (eventsOf modelEngine freshExchange ss)) (run-keeps freshExchange noHistory fresh-inv ss);
+      lists = lists-keep (stateAfter modelEngine freshExchange ss);
+    }

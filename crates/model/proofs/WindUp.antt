@@ -11,9 +11,9 @@ use borrow.Author.Tests.{eq-eqb, le-ltb, lt-ltb, ne-eqb, not-false}
 use mathlib.Core.Logic.{_⊎_, inl, inr}
 use Rattle.model.specs.Answers.{codeOf}
 use Rattle.model.specs.Calls.{claimWith, claimedRound, payingOrClosed, settleTests, settleWith, settledPhase, unfilled, isEarly}
-use Rattle.model.specs.Closing.{AllAccepted, BackToClosed, CanClose, Names, SettleCloses, WindsUp, afterCalls, next-call, no-call, times}
+use Rattle.model.specs.Closing.{AllAccepted, BackToClosed, CanClose, Names, SettleCloses, WindsUp, next-call, no-call, times}
 use Rattle.model.specs.History.{History, auctioning, logOf, running}
-use Rattle.model.specs.Run.{Reachable, after-call, stepOf}
+use Rattle.model.specs.Run.{Reachable, after-call, afterCalls, stepOf}
 use Rattle.model.specs.Sides.{wanted}
 use Rattle.model.specs.State.{closedMarket, credit, isAuction, isClosed, lastBlock, phase, restingOr, roundIn, ticket, toResidue, totalsOf, withPhase, withTicket}
 use Rattle.model.specs.declared.answer.Answer.the-variants.{Accepted}

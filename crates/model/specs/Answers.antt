@@ -7,7 +7,7 @@ use Rattle.model.specs.declared.answer.Refusal.the-variants as Refusal
 use Rattle.model.specs.declared.answer.Answer.{Answer}
 use Rattle.model.specs.declared.answer.Answer.the-variants.{Accepted, Refused}
 
--- the numbers of "Why a call is turned down"
+-- the numbers of "Why a call is turned down", and document 02's 22
 abbrev pub refusalCode : Refusal → ℕ
 refusalCode Refusal.NoSuchMember = 1
 refusalCode Refusal.NoSuchToken = 2
@@ -30,6 +30,7 @@ refusalCode Refusal.BoundMissed = 18
 refusalCode Refusal.InsufficientBalance = 19
 refusalCode Refusal.MalformedLine = 20
 refusalCode Refusal.BufferTooShort = 21
+refusalCode Refusal.BadOrderList = 22
 
 -- the code and the two numbers
 abbrev pub codeOf : Answer → ℕ

@@ -16,12 +16,7 @@ use Rattle.model.specs.declared.call.Call.the-variants as Call
 use Rattle.model.specs.declared.answer.Answer.the-variants.{Accepted}
 use Rattle.model.specs.State.{phase, roundIn, lastBlock}
 use Rattle.model.specs.Answers.{codeOf}
-use Rattle.model.specs.Run.{stepOf, Reachable}
-
--- a run of calls, without lines and rooms
-unfoldable pub afterCalls : Exchange → List Call → Exchange
-afterCalls x [] = x
-afterCalls x (c ∷ cs) = afterCalls (stepOf x c .exchange) cs
+use Rattle.model.specs.Run.{stepOf, afterCalls, Reachable}
 
 -- every call of the list is accepted, one after the other
 pub data AllAccepted : Exchange → List Call → Type 0 where

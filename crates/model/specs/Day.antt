@@ -5,7 +5,8 @@ use Rattle.model.specs.declared.call.Call.{Call}
 use Rattle.model.specs.declared.call.Call.the-variants.{Deposit, Withdraw, Order, Open, Enter, Match, Bid, Settle, Claim}
 use Rattle.model.specs.State.{freshExchange}
 use Rattle.model.specs.Answers.{codeOf, firstOf, secondOf, answerLine}
-use Rattle.model.specs.Run.{Request, Event, requestOf, eventsOf}
+use Rattle.model.specs.Run.{Event}
+use Rattle.model.specs.Submissions.{Submission, single, modelEngine, eventsOf}
 use Rattle.model.specs.Scripts.{requestsFrom, Accounts, accounts, MemberAccount, memberAccount}
 
 -- ---- the day
@@ -38,8 +39,8 @@ day = untilSettle ++ dayClaims
 abbrev pub numbersOf : Event → ℕ × ℕ × ℕ
 numbersOf e = (codeOf (e .answer), firstOf (e .answer), secondOf (e .answer))
 
-abbrev pub answersTo : List Request → List (ℕ × ℕ × ℕ)
-answersTo qs = map numbersOf (eventsOf requestOf freshExchange qs)
+abbrev pub answersTo : List Submission → List (ℕ × ℕ × ℕ)
+answersTo qs = map numbersOf (eventsOf modelEngine freshExchange qs)
 
 unfoldable pub printed : List (ℕ × ℕ × ℕ)
 printed =
@@ -85,10 +86,10 @@ printedLines =
 -- ---- 21: the answer to line 6 is "6,0,2750000,2250000" and its end byte, 20 bytes
 
 -- the day with this room for line 6, and 80 for every other
-abbrev pub roomAtOpen : ℕ → List Request
+abbrev pub roomAtOpen : ℕ → List Submission
 roomAtOpen room =
     requestsFrom 1 80 dayOrders
-    ++ (record { line = 6; room = room; call = Open 1 10 2500000 100000 10 } ∷ [])
+    ++ (single (record { line = 6; room = room; call = Open 1 10 2500000 100000 10 }) ∷ [])
     ++ requestsFrom 7 80 (Enter 0 ∷ Enter 1 ∷ Match 1 14 ∷ [])
     ++ requestsFrom 10 80 (dayAuction ++ dayClaims)
 
@@ -112,7 +113,7 @@ shortAtOpen =
     ∷ []
 
 -- "It goes before every other code": a refusal's line "1,1,0,0" needs 8 bytes too
-abbrev pub refusedIn : ℕ → List Request
+abbrev pub refusedIn : ℕ → List Submission
 refusedIn room = requestsFrom 1 room (Deposit 16 0 1 ∷ [])
 
 -- ---- the numbers of a whole run

@@ -10,7 +10,8 @@ use Rattle.model.specs.declared.call.Call.the-variants as Call
 use Rattle.model.specs.declared.answer.Answer.the-variants.{Accepted}
 use Rattle.model.specs.State.{ticket, orderIn, phase, roundIn, totalsOf, freshExchange}
 use Rattle.model.specs.Calls.{accept}
-use Rattle.model.specs.Run.{stepOf, Reachable, Request, requestOf, eventsOf, stateAfter}
+use Rattle.model.specs.Run.{stepOf, Reachable, Request, requestOf}
+use Rattle.model.specs.Submissions.{Submission, single, modelEngine, eventsOf, stateAfter}
 use Rattle.model.specs.History.{History, absent, historyOf}
 use Rattle.model.specs.WholeRun.{partIn}
 
@@ -29,19 +30,19 @@ LeaveEnter =
     let r : Round = roundIn (phase x (o .market)) in
     stepOf (stepOf x (Call.Leave k member) .exchange) (Call.Enter k) ≡ accept (totalsOf r (o .side) .total .0) 0 x
 
--- after any list of requests, a leave that is accepted: its ticket is none of its round's, whatever was told since its enter
+-- after any list of submissions, a leave that is accepted: its ticket is none of its round's, whatever was told since its enter
 abbrev pub LeftAbsent : Type 0
 LeftAbsent =
-    (qs : List Request) (leave : Request) (k member : ℕ) → leave .call ≡ Call.Leave k member
-    → let x : Exchange = stateAfter requestOf freshExchange qs in
+    (ss : List Submission) (leave : Request) (k member : ℕ) → leave .call ≡ Call.Leave k member
+    → let x : Exchange = stateAfter modelEngine freshExchange ss in
     (a b : ℕ) → requestOf x leave .answer ≡ Accepted a b
-    → let y : History = historyOf (eventsOf requestOf freshExchange (qs ++ (leave ∷ []))) in
+    → let y : History = historyOf (eventsOf modelEngine freshExchange (ss ++ (single leave ∷ []))) in
     partIn (y .rounds (orderIn (ticket x k) .market)) k ≡ absent
 
--- a list of requests with an enter and a leave of the same ticket after it, both accepted, tells history what the list alone tells
+-- a list of submissions with an enter and a leave of the same ticket after it, both accepted, tells history what the list alone tells
 abbrev pub EnterForgotten : Type 0
 EnterForgotten =
-    (qs : List Request) (enter leave : Request) (k member : ℕ) → enter .call ≡ Call.Enter k → leave .call ≡ Call.Leave k member
-    → let x : Exchange = stateAfter requestOf freshExchange qs in
+    (ss : List Submission) (enter leave : Request) (k member : ℕ) → enter .call ≡ Call.Enter k → leave .call ≡ Call.Leave k member
+    → let x : Exchange = stateAfter modelEngine freshExchange ss in
     (a b c d : ℕ) → requestOf x enter .answer ≡ Accepted a b → requestOf (requestOf x enter .exchange) leave .answer ≡ Accepted c d
-    → historyOf (eventsOf requestOf freshExchange (qs ++ (enter ∷ leave ∷ []))) ≡ historyOf (eventsOf requestOf freshExchange qs)
+    → historyOf (eventsOf modelEngine freshExchange (ss ++ (single enter ∷ single leave ∷ []))) ≡ historyOf (eventsOf modelEngine freshExchange ss)

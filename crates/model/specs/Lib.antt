@@ -3,6 +3,8 @@ pub mod State
 pub mod Answers
 pub mod Calls
 pub mod Run
+pub mod OrderLists
+pub mod Submissions
 pub mod Kinds
 pub mod Codes
 pub mod History

@@ -1,6 +1,5 @@
--- One step, a request, a run over a list, and the states that calls can leave.
+-- One step, a run of calls, a request, and the states that calls can leave.
 use Prim.Native.Nat.{ℕ}
-use mathlib.Core.Path.{_≡_}
 use mathlib.Core.Bool.{cond}
 use mathlib.Core.List.{List, [], _∷_}
 use lib.Dec.{ltb}
@@ -19,13 +18,22 @@ use Rattle.model.specs.Calls.{refuse, testsOf, doneOf}
 unfoldable pub stepOf : Exchange → Call → Outcome
 stepOf x c = decide (testsOf x c) (refuse x) (doneOf x c)
 
+-- calls made one after the other, without lines and rooms: the state after them, and their answers
+unfoldable pub afterCalls : Exchange → List Call → Exchange
+afterCalls x [] = x
+afterCalls x (c ∷ cs) = afterCalls (stepOf x c .exchange) cs
+
+unfoldable pub answersToCalls : Exchange → List Call → List Answer
+answersToCalls x [] = []
+answersToCalls x (c ∷ cs) = stepOf x c .answer ∷ answersToCalls (stepOf x c .exchange) cs
+
 -- a call with the number of its line and the bytes lent for its answer line
 pub record Request : Type 0 where
   pub line : ℕ
   pub room : ℕ
   pub call : Call
 
--- an engine takes a request in a state
+-- an engine of requests takes one in a state
 abbrev pub Engine : Type 0
 Engine = Exchange → Request → Outcome
 
@@ -42,25 +50,8 @@ pub record Event : Type 0 where
   pub call : Call
   pub answer : Answer
 
--- "The first gets the fresh house, each other one the house that the call before it left": what an engine answers to a list, and the state
--- after it
-unfoldable pub eventsOf : Engine → Exchange → List Request → List Event
-eventsOf f x [] = []
-eventsOf f x (q ∷ qs) = record { call = q .call; answer = f x q .answer } ∷ eventsOf f (f x q .exchange) qs
-
-unfoldable pub stateAfter : Engine → Exchange → List Request → Exchange
-stateAfter f x [] = x
-stateAfter f x (q ∷ qs) = stateAfter f (f x q .exchange) qs
-
 -- a state that calls can leave: "A host gets a house only as the fresh one or from a call". Fields are any numbers here; that a block
 -- fits 32 bits is what its type says in a contract.
 pub data Reachable : Exchange → Type 0 where
   at-first : Reachable freshExchange
   after-call : {x : Exchange} → Reachable x → (c : Call) → Reachable (stepOf x c .exchange)
-
--- the states that lists of requests leave are the same
-abbrev pub LeftByRequests : Exchange → Type 0
-LeftByRequests x = (qs : List Request) × (stateAfter requestOf freshExchange qs ≡ x)
-
-abbrev pub ReachableIsRun : Type 0
-ReachableIsRun = (x : Exchange) → (Reachable x → LeftByRequests x) × (LeftByRequests x → Reachable x)

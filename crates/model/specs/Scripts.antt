@@ -12,7 +12,8 @@ use Rattle.model.specs.declared.answer.Answer.{Answer}
 use Rattle.model.specs.declared.answer.Answer.the-variants.{Accepted, Refused}
 use Rattle.model.specs.State.{balance, supply, residue, phase, isClosed, freshExchange}
 use Rattle.model.specs.Answers.{refusalCode}
-use Rattle.model.specs.Run.{stepOf, Request, requestOf, eventsOf, stateAfter}
+use Rattle.model.specs.Run.{stepOf}
+use Rattle.model.specs.Submissions.{Submission, single, modelEngine, eventsOf, stateAfter}
 use Rattle.model.specs.History.{RoundLog, logOf, T, P, G, History, historyOf}
 use Rattle.model.specs.WholeRun.{balances, resting, inRounds, putBy}
 
@@ -53,16 +54,16 @@ callsOf (closed-is m b ∷ ls) = callsOf ls
 -- ---- requests
 
 -- calls as requests on lines n, n + 1, .., each with the same room
-unfoldable pub requestsFrom : ℕ → ℕ → List Call → List Request
+unfoldable pub requestsFrom : ℕ → ℕ → List Call → List Submission
 requestsFrom n room [] = []
-requestsFrom n room (c ∷ cs) = record { line = n; room = room; call = c } ∷ requestsFrom (suc n) room cs
+requestsFrom n room (c ∷ cs) = single (record { line = n; room = room; call = c }) ∷ requestsFrom (suc n) room cs
 
 -- from line 1 on, with room for every answer line
-abbrev pub requests : List Call → List Request
+abbrev pub requests : List Call → List Submission
 requests cs = requestsFrom 1 80 cs
 
 abbrev pub historyAfter : List Call → History
-historyAfter cs = historyOf (eventsOf requestOf freshExchange (requests cs))
+historyAfter cs = historyOf (eventsOf modelEngine freshExchange (requests cs))
 
 -- a market's round worked from history, and what a ticket with offer o on a side of it pays and gets
 abbrev pub logAfter : List Call → ℕ → RoundLog
@@ -105,7 +106,7 @@ accountsAs cs t x y =
     }
 
 unfoldable pub workedAccounts : Accounts → Accounts
-workedAccounts a = accountsAs (a .calls) (a .token) (stateAfter requestOf freshExchange (requests (a .calls))) (historyAfter (a .calls))
+workedAccounts a = accountsAs (a .calls) (a .token) (stateAfter modelEngine freshExchange (requests (a .calls))) (historyAfter (a .calls))
 
 -- the two sides of the whole run's sum
 unfoldable pub summed : Accounts → ℕ
@@ -131,5 +132,5 @@ memberAccountAs cs m t x y = memberAccount cs m t (balance x m t) (y .credits m 
 
 unfoldable pub workedMember : MemberAccount → MemberAccount
 workedMember a =
-    memberAccountAs (a .calls) (a .member) (a .token) (stateAfter requestOf freshExchange (requests (a .calls)))
+    memberAccountAs (a .calls) (a .member) (a .token) (stateAfter modelEngine freshExchange (requests (a .calls)))
     (historyAfter (a .calls))

@@ -1,6 +1,6 @@
--- Demand 3: one statement about every list of requests from the fresh state, of any engine. It uses of the engine only the answers that it gave
+-- Demand 3: one statement about every list of submissions from the fresh state, of any engine. It uses of the engine only the answers that it gave
 -- and what is read off the state: balances, tickets and the residue, as document 01 has it, the supply that refusal 14 looks at, and that a
--- refusal leaves the whole state.
+-- refusal leaves the whole state, of a list of orders also the places of its answers.
 -- It does not look at blocks, phases, which code refuses, the prices of matches and bids within the tickets' limits, a maker's bound, the numbers
 -- that kinds 1, 2, 3, 5, 6, 9 and 11 answer, cancel's second and a bid's first, and who cancels or leaves: the calls' own definitions fix
 -- those. So an engine that refuses every call meets it.
@@ -25,10 +25,13 @@ use Rattle.model.specs.declared.call.Call.the-variants as Call
 use Rattle.model.specs.declared.answer.Answer.the-variants.{Accepted, Refused}
 use Rattle.model.specs.declared.answer.Refusal.{Refusal}
 use Rattle.model.specs.declared.answer.Outcome.{Outcome}
+use Rattle.model.specs.declared.order_list.OrderFields.{OrderFields}
+use Rattle.model.specs.declared.order_list.AnswerPlace.{AnswerPlace}
 use Rattle.model.specs.Sides.{offered, wanted}
 use Rattle.model.specs.State.{balance, supply, residue, ticket, freeTicket, restingOr, freshExchange}
 use Rattle.model.specs.Answers.{answerLine}
-use Rattle.model.specs.Run.{Request, Engine, requestOf, eventsOf, stateAfter}
+use Rattle.model.specs.Run.{Request, Engine}
+use Rattle.model.specs.Submissions.{Submission, ListEngine, WholeEngine, modelEngine, eventsOf, stateAfter}
 use Rattle.model.specs.History.{OrderTerms, PlacedOrder, no-order, placed, Part, absent, waiting, claimed, settled, RoundLog, Current, idle, running, T, P, G, cameIn, wentOut, holds, ticketCount, Payout, EndedRound, History, historyOf}
 
 -- ---- read off the state
@@ -194,7 +197,7 @@ pub record EngineKeeps (f : Engine) (x : Exchange) (y : History) : Type 0 where
       → PaysOut x k (orderWith terms market o) (paidBy b terms o) (gotBy b terms o)
       (f x (record { line = line; room = room; call = Call.Claim k })))
 
--- what holds after a list, of the engine, the state that it left and the history of its answers
+-- what holds after a list, of an engine of requests, the state that was left and the history of the answers
 pub record Whole (f : Engine) (x : Exchange) (y : History) : Type 0 where
   pub books : BooksAgree x y
   pub tickets : TicketsAgree (ticket x) (y .orders) (y .rounds)
@@ -202,10 +205,26 @@ pub record Whole (f : Engine) (x : Exchange) (y : History) : Type 0 where
   pub past : PastAgrees (residue x) (y .ended) (y .payouts)
   pub engine : EngineKeeps f x y
 
--- the statement, of any engine
-abbrev pub WholeRunOf : Engine → Type 0
-WholeRunOf f = (qs : List Request) → Whole f (stateAfter f freshExchange qs) (historyOf (eventsOf f freshExchange qs))
+-- of lists of orders, in this state
+pub record ListsKeep (g : ListEngine) (x : Exchange) : Type 0 where
+  -- "both lists and the house then stay"
+  pub refused-leaves :
+      (orders : List OrderFields) (places : List AnswerPlace) (why : Refusal) → g x orders places .answer ≡ Refused why
+      → (g x orders places .exchange ≡ x) × (g x orders places .answers ≡ places)
+  -- an accepted list has as many answers as orders, so that each order is told
+  pub all-answered :
+      (orders : List OrderFields) (places : List AnswerPlace) (a b : ℕ) → g x orders places .answer ≡ Accepted a b
+      → length (g x orders places .answers) ≡ length orders
 
--- the statement, of the model's requests
+-- the same of an engine of the whole house, and what holds of its other calls
+pub record WholeHouse (e : WholeEngine) (x : Exchange) (y : History) : Type 0 where
+  pub whole : Whole (e .request) x y
+  pub lists : ListsKeep (e .orderList) x
+
+-- the statement, of any engine
+abbrev pub WholeRunOf : WholeEngine → Type 0
+WholeRunOf e = (ss : List Submission) → WholeHouse e (stateAfter e freshExchange ss) (historyOf (eventsOf e freshExchange ss))
+
+-- the statement, of the model's
 abbrev pub WholeRun : Type 0
-WholeRun = WholeRunOf requestOf
+WholeRun = WholeRunOf modelEngine

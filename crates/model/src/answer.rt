@@ -3,7 +3,7 @@ ghost use mathlib.Core.Path.{_≡_};
 ghost use Rattle.model.specs.Answers.{refusalCode, codeOf, firstOf, secondOf};
 use crate::state::Exchange;
 
-// Why a call is turned down: one case for each code from 1 to 21, in their order.
+// Why a call is turned down: one case for each code from 1 to 22, in their order.
 pub enum Refusal {
     NoSuchMember,
     NoSuchToken,
@@ -26,6 +26,7 @@ pub enum Refusal {
     InsufficientBalance,
     MalformedLine,
     BufferTooShort,
+    BadOrderList,
 }
 
 // Accepted with its two numbers, or refused: "Code 0 is acceptance".
@@ -66,6 +67,7 @@ pub fn refusal_code(why: Refusal) -> u32
         Refusal::InsufficientBalance => 19,
         Refusal::MalformedLine => 20,
         Refusal::BufferTooShort => 21,
+        Refusal::BadOrderList => 22,
     }
 }
 

@@ -22,7 +22,8 @@ use Rattle.model.specs.declared.call.Call.the-variants.{Claim}
 use Rattle.model.specs.Answers.{answerLine}
 use Rattle.model.specs.Calls.{refuse}
 use Rattle.model.specs.State.{freshExchange}
-use Rattle.model.specs.Run.{Reachable, after-call, Request, fitted, requestOf, eventsOf, stateAfter, Event}
+use Rattle.model.specs.Run.{Reachable, after-call, Request, fitted, requestOf, Event}
+use Rattle.model.specs.Submissions.{Submission, single, modelEngine, eventsOf, stateAfter}
 use Rattle.model.specs.History.{History, historyOf}
 use Rattle.model.specs.WholeRun.{Whole, PaysOut, gotBy, orderWith, paidBy}
 use Rattle.model.proofs.WholeRun.{whole-run}
@@ -140,40 +141,40 @@ abbrev event : Call → Answer → Event
 event c a = record { call = c; answer = a }
 
 -- the requests that its lines with calls are
-abbrev requested : Reading → LineRequest → List Request → List Request
+abbrev requested : Reading → LineRequest → List Submission → List Submission
 requested NoCall q qs = qs
-requested (Read c) q qs = asRequest q c ∷ qs
+requested (Read c) q qs = single (asRequest q c) ∷ qs
 
-abbrev requestsIn : List LineRequest → List Request
+abbrev requestsIn : List LineRequest → List Submission
 requestsIn [] = []
 requestsIn (q ∷ qs) = requested (readingOf (q .line)) q (requestsIn qs)
 
-same-state : (x : Exchange) (qs : List LineRequest) → stateAfter requestOf x (requestsIn qs) ≡ stateAfterLines lineRequestOf x qs
+same-state : (x : Exchange) (qs : List LineRequest) → stateAfter modelEngine x (requestsIn qs) ≡ stateAfterLines lineRequestOf x qs
 unfolding stateAfter stateAfterLines
 same-state x [] = refl
 same-state x (q ∷ qs) =
     by-reading (readingOf (q .line))
     (λ c e.
     rw e
-    (ap (λ (o : Outcome). stateAfter requestOf (o .exchange) (requestsIn qs)) (sym (line-call x q c e))
+    (ap (λ (o : Outcome). stateAfter modelEngine (o .exchange) (requestsIn qs)) (sym (line-call x q c e))
     ∙ same-state (lineRequestOf x q .exchange) qs))
     (λ e.
     rw e
-    (ap (λ (v : Exchange). stateAfter requestOf v (requestsIn qs)) (sym (line-none x q e))
+    (ap (λ (v : Exchange). stateAfter modelEngine v (requestsIn qs)) (sym (line-none x q e))
     ∙ same-state (lineRequestOf x q .exchange) qs))
 
-same-events : (x : Exchange) (qs : List LineRequest) → eventsOf requestOf x (requestsIn qs) ≡ eventsOfLines lineRequestOf x qs
+same-events : (x : Exchange) (qs : List LineRequest) → eventsOf modelEngine x (requestsIn qs) ≡ eventsOfLines lineRequestOf x qs
 unfolding eventsOf eventsOfLines
 same-events x [] = refl
 same-events x (q ∷ qs) =
     by-reading (readingOf (q .line))
     (λ c e.
     rw e
-    (ap (λ (o : Outcome). event c (o .answer) ∷ eventsOf requestOf (o .exchange) (requestsIn qs)) (sym (line-call x q c e))
+    (ap (λ (o : Outcome). event c (o .answer) ∷ eventsOf modelEngine (o .exchange) (requestsIn qs)) (sym (line-call x q c e))
     ∙ ap (λ (es : List Event). event c (lineRequestOf x q .answer) ∷ es) (same-events (lineRequestOf x q .exchange) qs)))
     (λ e.
     rw e
-    (ap (λ (v : Exchange). eventsOf requestOf v (requestsIn qs)) (sym (line-none x q e))
+    (ap (λ (v : Exchange). eventsOf modelEngine v (requestsIn qs)) (sym (line-none x q e))
     ∙ same-events (lineRequestOf x q .exchange) qs))
 
 -- ---- the statement
@@ -218,4 +219,4 @@ whole-run-of-lines qs =
     subst₂ (λ (x : Exchange) (es : List Event). WholeOfLines lineRequestOf x (historyOf es))
     (same-state freshExchange qs)
     (same-events freshExchange qs)
-    (of-lines _ _ (whole-run (requestsIn qs)))
+    (of-lines _ _ (whole-run (requestsIn qs) .whole))

@@ -1,4 +1,4 @@
--- The ranges of document 01, each named once.
+-- The ranges of documents 01 and 02, each named once.
 use Prim.Native.Nat.{ℕ}
 
 -- "Members 0 to 15. Tokens 0 to 3"
@@ -41,3 +41,7 @@ highestBound = 1500000000
 -- "At least 4 blocks after open"
 abbrev pub blocksToMatch : ℕ
 blocksToMatch = 4
+
+-- document 02, L5: "a lent list of orders, up to 64"
+abbrev pub mostOrders : ℕ
+mostOrders = 64
