@@ -6,9 +6,9 @@ use mathlib.Core.Path.{_∙_, _≡_, ap, refl, subst, sym}
 use native.Mathlib.Omega.{arith}
 use lib.Dec.{eqb, ltb}
 use lib.ListN.{length, length-append}
-use borrow.Author.Tests.{eq-eqb, le-ltb}
+use borrow.Author.Tests.{eq-eqb, eqb-true, le-ltb, ltb-false}
 use Rattle.units.specs.Ranges.{mostOrders}
-use Rattle.model.specs.OrderLists.{CutAlike, Listed, ListsCut, OrdersReachable, listDone, listRefused, orderCall, ordersOf, placeOf}
+use Rattle.model.specs.OrderLists.{CutAlike, EmptyList, ListOfOne, Listed, ListsCut, NothingChanges, OrdersReachable, listDone, listRefused, orderCall, ordersOf, placeOf}
 use Rattle.model.specs.Run.{Reachable, after-call, afterCalls, answersToCalls, stepOf}
 use Rattle.model.specs.declared.answer.Answer.{Answer}
 use Rattle.model.specs.declared.answer.Refusal.the-variants.{BadOrderList}
@@ -19,18 +19,20 @@ use Rattle.model.specs.declared.state.Exchange.{Exchange}
 
 -- ---- the two cases
 
--- whether a list of n orders with m places is refused
-abbrev pub refusedList : ℕ → ℕ → Bool
-refusedList n m = not (eqb n m) || ltb mostOrders n
+-- by the two tests: lists that differ in length, or have more than 64 places, and lists that do not
+pub tested : (n m : ℕ) (C : Bool → Type 0) → C true → (n ≡ m → n ≤ mostOrders → C false) → C (not (eqb n m) || ltb mostOrders n)
+tested n m C r d = go (eqb n m) (ltb mostOrders n) (eqb-true n m) (ltb-false mostOrders n)
+  where
+    go : (s t : Bool) → (s ≡ true → n ≡ m) → (t ≡ false → n ≤ mostOrders) → C (not s || t)
+    go true true e l = r
+    go true false e l = d (e refl) (l refl)
+    go false t e l = r
 
 -- what holds of the refused list and of the one that is made holds of the list
-pub list-apart : (x : Exchange) (fs : List OrderFields) (ps : List AnswerPlace) (C : Listed → Type 0) → C (listRefused x ps BadOrderList) → C (listDone x fs) → C (ordersOf x fs ps)
+pub list-apart : (x : Exchange) (fs : List OrderFields) (ps : List AnswerPlace) (C : Listed → Type 0)
+    → C (listRefused x ps BadOrderList) → (length fs ≡ length ps → length fs ≤ mostOrders → C (listDone x fs)) → C (ordersOf x fs ps)
 unfolding ordersOf
-list-apart x fs ps C r d = go (refusedList (length fs) (length ps))
-  where
-    go : (t : Bool) → C (cond t (listRefused x ps BadOrderList) (listDone x fs))
-    go true = r
-    go false = d
+list-apart x fs ps C r d = tested (length fs) (length ps) (λ (t : Bool). C (cond t (listRefused x ps BadOrderList) (listDone x fs))) r d
 
 pub list-accepted : (x : Exchange) (fs : List OrderFields) (ps : List AnswerPlace) → length fs ≡ length ps → length fs ≤ mostOrders → ordersOf x fs ps ≡ listDone x fs
 unfolding ordersOf
@@ -46,7 +48,7 @@ reachable-calls x l [] = l
 reachable-calls x l (c ∷ cs) = reachable-calls (stepOf x c .exchange) (after-call l c) cs
 
 pub orders-reachable : OrdersReachable
-orders-reachable x l fs ps = list-apart x fs ps (λ (d : Listed). Reachable (d .exchange)) l (reachable-calls x l (map orderCall fs))
+orders-reachable x l fs ps = list-apart x fs ps (λ (d : Listed). Reachable (d .exchange)) l (λ e m. reachable-calls x l (map orderCall fs))
 
 -- ---- runs of calls, one after the other
 
@@ -65,6 +67,20 @@ pub all-answered : (x : Exchange) (fs : List OrderFields) → length (listDone x
 unfolding answersToCalls
 all-answered x [] = refl
 all-answered x (f ∷ fs) = ap suc (all-answered (stepOf x (orderCall f) .exchange) fs)
+
+-- ---- no order, and one
+
+no-orders : (x : Exchange) → NothingChanges x [] (listDone x [])
+unfolding afterCalls answersToCalls
+no-orders x = record { state = refl; answers = refl }
+
+pub empty-list : EmptyList
+empty-list x [] = list-apart x [] [] (NothingChanges x []) (record { state = refl; answers = refl }) (λ e l. no-orders x)
+empty-list x (p ∷ ps) = list-apart x [] (p ∷ ps) (NothingChanges x (p ∷ ps)) (record { state = refl; answers = refl }) (λ e l. absurd (omega (arith, e)))
+
+pub list-of-one : ListOfOne
+unfolding afterCalls answersToCalls
+list-of-one x f p = list-accepted x (f ∷ []) (p ∷ []) refl (omega arith)
 
 -- ---- a list cut in two
 

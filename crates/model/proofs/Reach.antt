@@ -9,7 +9,7 @@ use Rattle.model.specs.Answers.{answerLine}
 use Rattle.model.specs.Calls.{refuse}
 use Rattle.model.specs.History.{History, noHistory, withEvent}
 use Rattle.model.specs.Run.{Reachable, Request, after-call, at-first, requestOf, stepOf}
-use Rattle.model.specs.Submissions.{LeftByList, ReachableIsRun, Submission, leftBy, modelEngine, orderList, single, stateAfter}
+use Rattle.model.specs.Submissions.{LeftByRun, ReachableIsRun, Submission, leftBy, modelEngine, orderList, single, stateAfter}
 use Rattle.model.specs.State.{freshExchange}
 use Rattle.model.specs.declared.answer.Outcome.{Outcome}
 use Rattle.model.specs.declared.answer.Refusal.the-variants.{BufferTooShort}
@@ -62,7 +62,7 @@ no-submissions : stateAfter modelEngine freshExchange [] ≡ freshExchange
 unfolding stateAfter
 no-submissions = refl
 
-run-to : {x : Exchange} → Reachable x → LeftByList x
+run-to : {x : Exchange} → Reachable x → LeftByRun x
 run-to at-first = ([], no-submissions)
 run-to (after-call {x} l c) =
     let p = run-to l in (

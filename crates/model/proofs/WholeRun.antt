@@ -15,7 +15,7 @@ use Rattle.model.specs.OrderLists.{Listed, listDone, listRefused, orderC
 use Rattle.model.specs.Run.{Event, Request, afterCalls, answersToCalls, requestOf, stepOf}
 use Rattle.model.specs.Submissions.{Submission, eventsOf, leftBy, listTold, modelEngine, orderList, ordersTold, single, stateAfter, toldBy}
 use Rattle.model.specs.State.{closedMarket, freeTicket, freshExchange, isEntered, isFree, isPaying, orderIn, phase, roundIn, ticket}
-use Rattle.model.specs.WholeRun.{ListsKeep, PaysOut, RoundPays, SettledTicket, Whole, WholeRun, enteredIn, gotBy, nil, orderWith, paidBy, partIn, placedIn, putBy, restingIn, restingTotal, roundsTotal, unclaimed}
+use Rattle.model.specs.WholeRun.{ListsKeep, PaysOut, RoundPays, SettledTicket, Singly, Whole, WholeRun, enteredIn, gotBy, next-order, nil, no-order-left, orderWith, paidBy, partIn, placedIn, putBy, restingIn, restingTotal, roundsTotal, unclaimed}
 use Rattle.model.specs.declared.answer.Answer.the-variants.{Accepted, Refused}
 use Rattle.model.specs.declared.answer.Outcome.{Outcome}
 use Rattle.model.specs.declared.answer.Refusal.{Refusal}
@@ -35,7 +35,7 @@ use Rattle.units.specs.Counts.{amount}
 use Rattle.units.specs.Sums.{sumOver}
 use Rattle.units.specs.declared.Amount.{Amount}
 use Rattle.ledger.proofs.Laws.{fresh-all-zero}
-use Rattle.model.proofs.Codes.{codes-rising, refusal-code}
+use Rattle.model.proofs.Codes.{codes-rising, refusal-code, rooms-first}
 use Rattle.model.proofs.Inv.{Inv, MarketOk}
 use Rattle.model.proofs.KeepsBid.{bid-keeps}
 use Rattle.model.proofs.KeepsClaim.{claim-keeps, pays, shares-are}
@@ -100,7 +100,7 @@ submission-keeps : (h : Exchange) (y : History) → Inv h y → (s : Submission)
 unfolding historyFrom
 submission-keeps h y i (single q) = request-keeps h y i q
 submission-keeps h y i (orderList fs ps) =
-    list-apart h fs ps (λ (l : Listed). Inv (l .exchange) (historyFrom y (listTold fs (l .answer) (l .answers)))) i (orders-keep h y i fs)
+    list-apart h fs ps (λ (l : Listed). Inv (l .exchange) (historyFrom y (listTold fs (l .answer) (l .answers)))) i (λ e m. orders-keep h y i fs)
 
 pub run-keeps : (h : Exchange) (y : History) → Inv h y → (ss : List Submission) → Inv (stateAfter modelEngine h ss) (historyFrom y (eventsOf modelEngine h ss))
 unfolding stateAfter eventsOf historyFrom
@@ -255,21 +255,33 @@ whole-of h y i =
           };
     }
 
--- of lists of orders
+-- of lists of orders: an order made singly is its call where there is room
+singly : (x : Exchange) (fs : List OrderFields) → Singly requestOf x fs (listDone x fs .answers) (listDone x fs .exchange)
+unfolding afterCalls answersToCalls
+singly x [] = no-order-left
+singly x (f ∷ fs) = next-order (λ line room l. rooms-first x (record { line = line; room = room; call = orderCall f }) .enough l) (singly (stepOf x (orderCall f) .exchange) fs)
+
 ListKeeps : Exchange → List OrderFields → List AnswerPlace → Listed → Type 0
 ListKeeps x fs ps l =
-    ((why : Refusal) → l .answer ≡ Refused why → (l .exchange ≡ x) × (l .answers ≡ ps)) × ((a b : ℕ) → l .answer ≡ Accepted a b → length (l .answers) ≡ length fs)
+    ((why : Refusal) → l .answer ≡ Refused why → (l .exchange ≡ x) × (l .answers ≡ ps))
+    × ((a b : ℕ) → l .answer ≡ Accepted a b → (length (l .answers) ≡ length fs) × (length (l .answers) ≡ length ps))
+    × ((a b : ℕ) → l .answer ≡ Accepted a b → Singly requestOf x fs (l .answers) (l .exchange))
 
 list-keeps : (x : Exchange) (fs : List OrderFields) (ps : List AnswerPlace) → ListKeeps x fs ps (ordersOf x fs ps)
 unfolding ListKeeps
 list-keeps x fs ps =
     list-apart x fs ps (ListKeeps x fs ps)
-    (λ why e. (refl, refl), λ a b e. absurd (let z : _≡_ {A = ℕ} 0 1 = cc (e) in omega arith))
-    (λ why e. absurd (let z : _≡_ {A = ℕ} 0 1 = cc (e) in omega arith), λ a b e. all-answered x fs)
+    (λ why e. (refl, refl), λ a b e. absurd (let z : _≡_ {A = ℕ} 0 1 = cc (e) in omega arith), λ a b e. absurd (let z : _≡_ {A = ℕ} 0 1 = cc (e) in omega arith))
+    (λ same most. (
+      λ why e. absurd (let z : _≡_ {A = ℕ} 0 1 = cc (e) in omega arith),
+      λ a b e. (all-answered x fs, all-answered x fs ∙ same),
+      λ a b e. singly x fs,
+    ))
 
-lists-keep : (x : Exchange) → ListsKeep ordersOf x
+lists-keep : (x : Exchange) → ListsKeep modelEngine x
 unfolding ListKeeps
-lists-keep x = record { refused-leaves = λ fs ps. list-keeps x fs ps .0; all-answered = λ fs ps. list-keeps x fs ps .1 }
+lists-keep x =
+    record { refused-leaves = λ fs ps. list-keeps x fs ps .0; all-answered = λ fs ps. list-keeps x fs ps .1; made-singly = λ fs ps. list-keeps x fs ps .2 }
 
 -- ---- the theorem
 

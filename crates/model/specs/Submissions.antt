@@ -1,6 +1,6 @@
 -- The list of a whole run: requests, and the calls on the house that have no line. "The list holds any of the ten calls with any fields, accepted or turned
 -- down, 21 included, and any call on the house that is added later". A call that is added without a line is a case of `Submission`, a function of
--- `WholeEngine`, and a clause of `toldBy` and of `leftBy`.
+-- `WholeEngine`, a clause of `toldBy` and of `leftBy`, and what the statement says of it a part of `WholeHouse` (WholeRun.antt).
 use mathlib.Core.List.{List, [], _∷_, _++_}
 use mathlib.Core.Path.{_≡_}
 use Rattle.model.specs.declared.state.Exchange.{Exchange}
@@ -59,9 +59,9 @@ unfoldable pub stateAfter : WholeEngine → Exchange → List Submission → Exc
 stateAfter e x [] = x
 stateAfter e x (s ∷ ss) = stateAfter e (leftBy e x s) ss
 
--- the states that such lists leave are those that calls can leave
-abbrev pub LeftByList : Exchange → Type 0
-LeftByList x = (ss : List Submission) × (stateAfter modelEngine freshExchange ss ≡ x)
+-- the states that such runs leave are those that calls can leave
+abbrev pub LeftByRun : Exchange → Type 0
+LeftByRun x = (ss : List Submission) × (stateAfter modelEngine freshExchange ss ≡ x)
 
 abbrev pub ReachableIsRun : Type 0
-ReachableIsRun = (x : Exchange) → (Reachable x → LeftByList x) × (LeftByList x → Reachable x)
+ReachableIsRun = (x : Exchange) → (Reachable x → LeftByRun x) × (LeftByRun x → Reachable x)

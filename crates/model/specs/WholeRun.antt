@@ -2,8 +2,8 @@
 -- and what is read off the state: balances, tickets and the residue, as document 01 has it, the supply that refusal 14 looks at, and that a
 -- refusal leaves the whole state, of a list of orders also the places of its answers.
 -- It does not look at blocks, phases, which code refuses, the prices of matches and bids within the tickets' limits, a maker's bound, the numbers
--- that kinds 1, 2, 3, 5, 6, 9 and 11 answer, cancel's second and a bid's first, and who cancels or leaves: the calls' own definitions fix
--- those. So an engine that refuses every call meets it.
+-- that kinds 1, 2, 3, 5, 6, 9 and 11 answer, cancel's second and a bid's first, who cancels or leaves, that a list of more than 64 orders is
+-- refused, and the numbers of a list's own answer: the calls' own definitions fix those. So an engine that refuses every call meets it.
 use Prim.Native.Nat.{ℕ, suc, _+_, _-_, _≤_, _<_}
 use mathlib.Core.Path.{_≡_}
 use mathlib.Core.Bool.{cond}
@@ -31,7 +31,8 @@ use Rattle.model.specs.Sides.{offered, wanted}
 use Rattle.model.specs.State.{balance, supply, residue, ticket, freeTicket, restingOr, freshExchange}
 use Rattle.model.specs.Answers.{answerLine}
 use Rattle.model.specs.Run.{Request, Engine}
-use Rattle.model.specs.Submissions.{Submission, ListEngine, WholeEngine, modelEngine, eventsOf, stateAfter}
+use Rattle.model.specs.OrderLists.{orderCall}
+use Rattle.model.specs.Submissions.{Submission, WholeEngine, modelEngine, eventsOf, stateAfter}
 use Rattle.model.specs.History.{OrderTerms, PlacedOrder, no-order, placed, Part, absent, waiting, claimed, settled, RoundLog, Current, idle, running, T, P, G, cameIn, wentOut, holds, ticketCount, Payout, EndedRound, History, historyOf}
 
 -- ---- read off the state
@@ -197,7 +198,7 @@ pub record EngineKeeps (f : Engine) (x : Exchange) (y : History) : Type 0 where
       → PaysOut x k (orderWith terms market o) (paidBy b terms o) (gotBy b terms o)
       (f x (record { line = line; room = room; call = Call.Claim k })))
 
--- what holds after a list, of an engine of requests, the state that was left and the history of the answers
+-- what holds after a run, of an engine of requests, the state that was left and the history of the answers
 pub record Whole (f : Engine) (x : Exchange) (y : History) : Type 0 where
   pub books : BooksAgree x y
   pub tickets : TicketsAgree (ticket x) (y .orders) (y .rounds)
@@ -205,21 +206,36 @@ pub record Whole (f : Engine) (x : Exchange) (y : History) : Type 0 where
   pub past : PastAgrees (residue x) (y .ended) (y .payouts)
   pub engine : EngineKeeps f x y
 
+-- "the orders made singly from first to last", as the engine's own requests on any lines with room: from state x they leave y, and their answers stand in
+-- the places
+pub data Singly (f : Engine) : Exchange → List OrderFields → List AnswerPlace → Exchange → Type 0 where
+  no-order-left : {x : Exchange} → Singly f x [] [] x
+  next-order :
+      {x between y : Exchange} {order : OrderFields} {orders : List OrderFields} {place : AnswerPlace} {places : List AnswerPlace}
+      → ((line room : ℕ) → length (answerLine line (place .answer)) ≤ room
+      → f x (record { line = line; room = room; call = orderCall order }) ≡ record { answer = place .answer; exchange = between })
+      → Singly f between orders places y
+      → Singly f x (order ∷ orders) (place ∷ places) y
+
 -- of lists of orders, in this state
-pub record ListsKeep (g : ListEngine) (x : Exchange) : Type 0 where
+pub record ListsKeep (e : WholeEngine) (x : Exchange) : Type 0 where
   -- "both lists and the house then stay"
   pub refused-leaves :
-      (orders : List OrderFields) (places : List AnswerPlace) (why : Refusal) → g x orders places .answer ≡ Refused why
-      → (g x orders places .exchange ≡ x) × (g x orders places .answers ≡ places)
-  -- an accepted list has as many answers as orders, so that each order is told
+      (orders : List OrderFields) (places : List AnswerPlace) (why : Refusal) → e .orderList x orders places .answer ≡ Refused why
+      → (e .orderList x orders places .exchange ≡ x) × (e .orderList x orders places .answers ≡ places)
+  -- an accepted list has as many answers as orders, so that each order is told, and no more than there are places
   pub all-answered :
-      (orders : List OrderFields) (places : List AnswerPlace) (a b : ℕ) → g x orders places .answer ≡ Accepted a b
-      → length (g x orders places .answers) ≡ length orders
+      (orders : List OrderFields) (places : List AnswerPlace) (a b : ℕ) → e .orderList x orders places .answer ≡ Accepted a b
+      → (length (e .orderList x orders places .answers) ≡ length orders) × (length (e .orderList x orders places .answers) ≡ length places)
+  -- "The house and answers afterwards are those of the orders made singly from first to last"
+  pub made-singly :
+      (orders : List OrderFields) (places : List AnswerPlace) (a b : ℕ) → e .orderList x orders places .answer ≡ Accepted a b
+      → Singly (e .request) x orders (e .orderList x orders places .answers) (e .orderList x orders places .exchange)
 
 -- the same of an engine of the whole house, and what holds of its other calls
 pub record WholeHouse (e : WholeEngine) (x : Exchange) (y : History) : Type 0 where
   pub whole : Whole (e .request) x y
-  pub lists : ListsKeep (e .orderList) x
+  pub lists : ListsKeep e x
 
 -- the statement, of any engine
 abbrev pub WholeRunOf : WholeEngine → Type 0

@@ -3,13 +3,10 @@
 use mathlib.Core.Path.{_≡_, refl, sym, _∙_, ap, subst}
 use Prim.Native.Nat.{ℕ, zero, suc, _≤_}
 use native.Mathlib.Omega.{arith}
-use mathlib.Core.Bool.{Bool, true, false, cond, not, _||_}
+use mathlib.Core.Bool.{Bool, cond}
 use mathlib.Core.List.{List, [], _∷_, _++_, append-assoc, append-nil}
-use lib.Dec.{eqb, ltb}
 use lib.ListN.{length, getD, set, take, drop, length-take}
 use lib.Seq.{take-suc, take-length, drop-cons, drop-length, set-append-seam}
-use borrow.Author.Tests.{eqb-true}
-use Rattle.units.specs.Ranges.{mostOrders}
 use Rattle.model.specs.declared.state.Exchange.{Exchange}
 use Rattle.model.specs.declared.answer.Answer.{Answer}
 use Rattle.model.specs.declared.answer.Answer.the-variants.{Accepted, Refused}
@@ -18,8 +15,8 @@ use Rattle.model.specs.declared.order_list.OrderFields.{OrderFields}
 use Rattle.model.specs.declared.order_list.AnswerPlace.{AnswerPlace}
 use Rattle.model.specs.Run.{afterCalls, answersToCalls}
 use Rattle.model.specs.OrderLists.{Listed, listDone, listRefused, ordersOf}
-use Rattle.model.proofs.OrderLists.{all-answered, done-answers, done-state, refusedList}
-use Rattle.order_list.specs.Walk.{listAnswer, placesIn, placedOne}
+use Rattle.model.proofs.OrderLists.{all-answered, done-answers, done-state, tested}
+use Rattle.order_list.specs.Walk.{listAnswer, ordersMade, placedOne}
 use Rattle.order_list.proofs.Turns.{state}
 
 abbrev pub after : Exchange → OrderFields → Exchange
@@ -108,13 +105,8 @@ module _ (x : Exchange) (fs : List OrderFields) (d : OrderFields) (ys : List Ans
   abbrev Cases : Bool → Type 0
   Cases t =
       let answer : Answer = cond t (Refused BadOrderList) (Accepted 0 0) in
-      Walked answer (cond t (listRefused x ys BadOrderList) (listDone x fs)) (placesIn answer (length fs))
+      Walked answer (cond t (listRefused x ys BadOrderList) (listDone x fs)) (ordersMade answer (length fs))
 
-  by-tests : (s t : Bool) → (s ≡ true → length fs ≡ length ys) → Cases (not s || t)
-  by-tests true true same = refused-walked
-  by-tests true false same = all-walked (same refl)
-  by-tests false t same = refused-walked
-
-  pub walked-list : Walked (listAnswer (length fs) (length ys)) (ordersOf x fs ys) (placesIn (listAnswer (length fs) (length ys)) (length fs))
+  pub walked-list : Walked (listAnswer (length fs) (length ys)) (ordersOf x fs ys) (ordersMade (listAnswer (length fs) (length ys)) (length fs))
   unfolding listAnswer ordersOf
-  walked-list = by-tests (eqb (length fs) (length ys)) (ltb mostOrders (length fs)) (eqb-true (length fs) (length ys))
+  walked-list = tested (length fs) (length ys) Cases refused-walked (λ same most. all-walked same)

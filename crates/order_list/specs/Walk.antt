@@ -14,9 +14,9 @@ unfoldable pub listAnswer : (orders places : ℕ) → Answer
 listAnswer orders places = decide (listTests orders places) Refused (Accepted 0 0)
 
 -- how many orders are made: all, or none where the call is refused
-abbrev pub placesIn : Answer → ℕ → ℕ
-placesIn (Accepted a b) orders = orders
-placesIn (Refused r) orders = 0
+abbrev pub ordersMade : Answer → ℕ → ℕ
+ordersMade (Accepted a b) orders = orders
+ordersMade (Refused r) orders = 0
 
 -- one order, its answer in a place
 unfoldable pub placedOne : Exchange → OrderFields → PlacedOne

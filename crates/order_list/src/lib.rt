@@ -2,7 +2,7 @@
 ghost use mathlib.Core.Path.{_≡_};
 ghost use Rattle.model.specs.Run.{Reachable};
 ghost use Rattle.model.specs.OrderLists.{ordersOf};
-ghost use Rattle.order_list.specs.Walk.{listAnswer, placesIn, placedOne};
+ghost use Rattle.order_list.specs.Walk.{listAnswer, ordersMade, placedOne};
 use exchange::order;
 use model::answer::Answer;
 use model::answer::Outcome;
@@ -47,7 +47,7 @@ fn list_answer(orders: usize, places: usize) -> Answer
 
 // How many orders the call makes: all, or none where it is refused.
 fn orders_made(answer: Answer, orders: usize) -> usize
-    ensures { λ r. ⌜ r ≡ placesIn answer orders ⌝ }
+    ensures { λ r. ⌜ r ≡ ordersMade answer orders ⌝ }
 {
     match answer {
         Answer::Accepted(_, _) => orders,

@@ -61,7 +61,7 @@ use Rattle.model.proofs.order_list.OrderFields as F
 use Rattle.model.proofs.order_list.OrderFields.Laws as F′
 use Rattle.model.proofs.order_list.AnswerPlace as L
 use Rattle.model.proofs.order_list.AnswerPlace.Laws as L′
-use Rattle.order_list.specs.Walk.{listAnswer, placesIn, placedOne}
+use Rattle.order_list.specs.Walk.{listAnswer, ordersMade, placedOne}
 use Rattle.order_list.specs.declared.PlacedOne.{PlacedOne}
 use Rattle.order_list.proofs.PlacedOne as O
 use Rattle.order_list.proofs.PlacedOne.Laws as O′
@@ -214,13 +214,13 @@ module _ {M : Type 1} (𝓤 : URA M) (H : Heap 𝓤) (A : Atoms 𝓤) (W : Given
         qed W (‵ ftrue ∷ []) ∵ nothing ! $ owned ! usize (Is usize) (uint-makes 𝓤 H A W w64) a _ (refl, a-fits) $ fjoin ! $
         owned ! N.the-row (Is N.the-row) (EL.makes N.the-type N′.the-plain 𝓤 H A) r _ is $ fjoin ! $ move ! (1 ∷ 0 ∷ []) $ join ! $ frame ! $ done !
 
-    made-says : (r : Answer) (a n : ℕ) → ent 𝓤 (ensured 𝓤 H A made.ended (made.clauses 𝓤 H A at-mem run) tt (r, (a, tt)) tt n) (fact 𝓤 (n ≡ placesIn r a))
-    made-says r a n = exE 𝓤 _ (λ ws. snd∗ 𝓤 (sem 𝓤 H A (lasts made.ended tt (r, (a, tt)) ws)) (fact 𝓤 (n ≡ placesIn r a)))
+    made-says : (r : Answer) (a n : ℕ) → ent 𝓤 (ensured 𝓤 H A made.ended (made.clauses 𝓤 H A at-mem run) tt (r, (a, tt)) tt n) (fact 𝓤 (n ≡ ordersMade r a))
+    made-says r a n = exE 𝓤 _ (λ ws. snd∗ 𝓤 (sem 𝓤 H A (lasts made.ended tt (r, (a, tt)) ws)) (fact 𝓤 (n ≡ ordersMade r a)))
 
-    made-gives : (r : Answer) (a : ℕ) (v : Val) → ent 𝓤 (OrdersMade 𝓤 H A at-mem run .post (to-made r a) v) (H .⇛ (guard 𝓤 (v ≡ vint w64 (placesIn r a)) (emp 𝓤)))
+    made-gives : (r : Answer) (a : ℕ) (v : Val) → ent 𝓤 (OrdersMade 𝓤 H A at-mem run .post (to-made r a) v) (H .⇛ (guard 𝓤 (v ≡ vint w64 (ordersMade r a)) (emp 𝓤)))
     made-gives r a v =
         qed W (later (some (λ (n : ℕ). (‵ ftrue ⊛ ‵ (usize .own n (v ∷ []))) ⊛ raw (ensured 𝓤 H A made.ended (made.clauses 𝓤 H A at-mem run) tt (r, (a, tt)) tt n))) ∷ []) ∵ updating ! $ await ! tt $ pick ! (λ n.
-        split ! $ move ! (1 ∷ []) $ use1 W (raw (fact 𝓤 (n ≡ placesIn r a))) (made-says r a n) $ heard ! (n ≡ placesIn r a) (λ e. split ! $ drop ! $
+        split ! $ move ! (1 ∷ []) $ use1 W (raw (fact 𝓤 (n ≡ ordersMade r a))) (made-says r a n) $ heard ! (n ≡ ordersMade r a) (λ e. split ! $ drop ! $
         peeks ! usize (Is usize) (shows 𝓤 H A usize) n (v ∷ []) (λ is. drop ! $ at-once ! $ check ! (ap only (is .0) ∙ ap (vint w64) e) $ done !)))
 
     module _ (κ₀ κ₁ : Lft) (q₀ q₁ : Share) (h : Exchange) (list : RefT (List OrderFields)) (b o : ℕ) (γ : GName) (ys : List AnswerPlace)
@@ -233,7 +233,7 @@ module _ {M : Type 1} (𝓤 : URA M) (H : Heap 𝓤) (A : Atoms 𝓤) (W : Given
       own = listAnswer (length fs) (length ys)
 
       abbrev n : ℕ
-      n = placesIn own (length fs)
+      n = ordersMade own (length fs)
 
       abbrev answers : List AnswerPlace → RefT (List AnswerPlace)
       answers zs = record { ptr = (b, o); name = γ; now = zs }
