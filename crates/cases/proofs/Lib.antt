@@ -9,3 +9,4 @@ pub mod HistoryCases
 pub mod Fixes
 pub mod FixedRuns
 pub mod ClauseCases
+pub mod ListCases

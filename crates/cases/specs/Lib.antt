@@ -9,3 +9,4 @@ pub mod ClauseCases
 pub mod BoundCases
 pub mod StateCases
 pub mod HistoryCases
+pub mod ListCases
