@@ -17,7 +17,7 @@ use Rattle.model.specs.declared.answer.Answer.the-variants.{Accepted, Refused}
 use Rattle.model.specs.declared.answer.Outcome.{Outcome}
 use Rattle.model.specs.declared.order_list.OrderFields.{OrderFields}
 use Rattle.model.specs.declared.order_list.AnswerPlace.{AnswerPlace}
-use Rattle.model.specs.State.{balance, ticket, freshExchange}
+use Rattle.model.specs.State.{balance, lastBlock, ticket, freshExchange}
 use Rattle.model.specs.Answers.{codeOf, firstOf, secondOf, answerLine}
 use Rattle.model.specs.Calls.{accept, refuse}
 use Rattle.model.specs.Run.{Engine, at-first, after-call, stepOf, requestOf, afterCalls, answersToCalls}
@@ -289,6 +289,7 @@ houses-refused =
       denies = λ w. let h : _≡_ {A = ℕ} 6 10 = w oneListed .whole .books .accounts 0 (omega arith) 0 (omega arith) in omega (arith, h);
       promises = λ w. let h : _≡_ {A = ℕ} 14 10 = w oneListed .whole .books .accounts 0 (omega arith) 0 (omega arith) in omega (arith, h);
       misplaces = λ w. let h : _≡_ {A = ℕ} 0 1 = ap marketIn (w oneListed .whole .tickets .tickets-are 0 (omega arith)) in omega (arith, h);
+      moves = λ w. let h : _≡_ {A = ℕ} 1 0 = ap lastBlock (w [] .whole .engine .refused-stays (oneRequest 1 80) _ refl) in omega (arith, h);
       clears = λ w. let h : _≡_ {A = ℕ} 0 1 = ap length (w [] .lists .refused-leaves [] (held ∷ []) _ refl .1) in omega (arith, h);
       credits = λ w. let h : _≡_ {A = ℕ} 1 0 = ap (λ x. balance x 0 0) (w [] .lists .refused-leaves [] [] _ refl .0) in omega (arith, h);
     }

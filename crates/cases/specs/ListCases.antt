@@ -1,5 +1,5 @@
--- Document 02, L5, a morning's orders at once: lists of orders with the answers that the page gives them, worked by hand, every wrong pair of lengths, and
--- what a list tells a whole run.
+-- Document 02, L5, a morning's orders at once: lists of orders with the answers that the page gives them, worked by hand, every wrong pair of lengths, what a
+-- list tells a whole run, and what the statements about lists say, used, met and refused.
 use Prim.Native.Nat.{ℕ, zero, suc, _+_}
 use mathlib.Core.Path.{_≡_}
 use mathlib.Core.List.{List, [], _∷_, _++_, map}
@@ -25,6 +25,7 @@ use Rattle.model.specs.Submissions.{Submission, single, orderList, ListEngine, 
 use Rattle.model.specs.History.{PlacedOrder, no-order, placed, History, historyOf}
 use Rattle.model.specs.WholeRun.{Singly, ListsKeep, WholeRunOf}
 use Rattle.cases.specs.Literals.{order, terms}
+use Rattle.cases.specs.ClauseCases.{moving}
 use Rattle.cases.specs.Pasts.{TokenNumbers, tokenNumbers, tokenIn, MemberNumbers, memberNumbers, memberIn}
 
 -- ---- a list
@@ -134,7 +135,7 @@ RefusedWhole n m =
     (x : Exchange) (f : OrderFields) (p : AnswerPlace)
     → ordersOf x (replicate n f) (replicate m p) ≡ record { answer = Refused BadOrderList; answers = replicate m p; exchange = x }
 
--- "The call's own answer is 0" with two zeros, whatever became of its orders
+-- "The call's own answer is 0 .. with two zeros", whatever became of its orders
 abbrev pub AcceptedWhole : ℕ → Type 0
 AcceptedWhole n = (x : Exchange) (f : OrderFields) (p : AnswerPlace) → ordersOf x (replicate n f) (replicate n p) .answer ≡ Accepted 0 0
 
@@ -423,6 +424,8 @@ pub record HousesRefused : Type 0 where
   pub denies : WholeRunOf (houseWith denying) → ⊥
   pub promises : WholeRunOf (houseWith promising) → ⊥
   pub misplaces : WholeRunOf (houseWith misplacing) → ⊥
+  -- a request that is refused and moves
+  pub moves : WholeRunOf (record { request = moving; orderList = refusingLists }) → ⊥
   pub clears : WholeRunOf (houseWith clearing) → ⊥
   pub credits : WholeRunOf (houseWith crediting) → ⊥
 

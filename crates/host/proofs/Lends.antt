@@ -2,6 +2,7 @@
 --     One          a type of one machine value, with its laws
 --     Lending      a call that takes the local: the states before and after it, what else it takes and gives, its result, and that it meets its contract
 --     returned     what is returned is a definition's value: so is its machine value
+--     lies-in, lies-out    the local's cell is the value in memory
 --     lend, back   what the call asks, from the local; and the local from what the call gave
 -- Assumes `Given`.
 use mathlib.Core.Path.{_≡_, refl, sym, ap, subst}
@@ -39,7 +40,7 @@ pub record One (R : RattleType) : Type 2 where
   pub tells : Tells R (Is R) (λ x. val x ∷ [])
   pub typed : (x : R .Denot) → Is R x (val x ∷ []) → T (hasTy mir (val x)) × WT (val x)
   pub cell : (q : Share) (x : R .Denot) (b o : ℕ) → cellAt q (R .mir) (val x ∷ []) b o ≡ fat q (rawTy mir) b o (val x)
-  pub makes : {M : Type 1} (𝓤 : URA M) (H : Heap 𝓤) (A : Atoms 𝓤) → Makes 𝓤 H A R (Is R)
+  pub makes : {M : Type 1} (𝓤 : URA M) (H : Heap 𝓤) (A : Atoms 𝓤) → Given 𝓤 H A → Makes 𝓤 H A R (Is R)
 
 module _ {M : Type 1} (𝓤 : URA M) (H : Heap 𝓤) (A : Atoms 𝓤) (W : Given 𝓤 H A) (R : RattleType) (D : One R) (l : ℕ) where
   -- the local's cell
@@ -53,21 +54,30 @@ module _ {M : Type 1} (𝓤 : URA M) (H : Heap 𝓤) (A : Atoms 𝓤) (W : Given
   abbrev pub Kept : ℕ → GName → Fml
   Kept α δ = flent (α ∷ []) (Holds (mem R) l 0 δ)
 
-  lends : (α : ℕ) (s : R .Denot) → Is R s (D .val s ∷ []) → ent 𝓤 (sem 𝓤 H A (Cell s)) (H .⇛ (ex 𝓤 (λ (δ : GName). sep 𝓤 (sem 𝓤 H A (Lent α δ s)) (sem 𝓤 H A (Kept α δ)))))
+  -- the local's cell is the value in memory, and back
+  pub lies-in : (s : R .Denot) → Is R s (D .val s ∷ []) → ent 𝓤 (sem 𝓤 H A (Cell s)) (sem 𝓤 H A (mem R .lies s l 0))
   unfolding partOf
+  lies-in s is =
+      qed W (‵ (Cell s) ∷ []) ∵ use1 W (‵ (fat fullShare (rawTy (D .mir)) l 0 (D .val s))) (W .laws .at-raw fullShare (D .mir) l 0 (D .val s)) $
+      rewrite ! 0 (λ (P : Fml). ‵ P) (sym (D .cell fullShare s l 0)) refl $ owned ! R (Is R) (D .makes 𝓤 H A W) s _ is $ move ! (1 ∷ 0 ∷ []) $ fjoin ! $
+      fpack ! (List Val) (λ us. fsep (cellAt fullShare (R .mir) us l 0) (R .own s us)) (D .val s ∷ []) $ done !
+
+  pub lies-out : (s : R .Denot) → ent 𝓤 (sem 𝓤 H A (mem R .lies s l 0)) (guard 𝓤 (Is R s (D .val s ∷ [])) (sem 𝓤 H A (Cell s)))
+  unfolding partOf
+  lies-out s =
+      qed W (‵ (mem R .lies s l 0) ∷ []) ∵ fpick ! (λ vs. fsplit ! $ move ! (1 ∷ []) $ peeks ! R (Is R) (shows 𝓤 H A R) s vs (λ is. drop ! $
+      rewrite ! 0 (λ (us : List Val). ‵ (cellAt fullShare (R .mir) us l 0)) (D .tells s vs is) refl $ rewrite ! 0 (λ (P : Fml). ‵ P) (D .cell fullShare s l 0) refl $
+      use1 W (‵ (Cell s)) (W .laws .raw-at fullShare (D .mir) l 0 (D .val s)) $ check ! (subst (λ (us : List Val). Is R s us) (D .tells s vs is) is) $ done !))
+
+  lends : (α : ℕ) (s : R .Denot) → Is R s (D .val s ∷ []) → ent 𝓤 (sem 𝓤 H A (Cell s)) (H .⇛ (ex 𝓤 (λ (δ : GName). sep 𝓤 (sem 𝓤 H A (Lent α δ s)) (sem 𝓤 H A (Kept α δ)))))
   lends α s is =
-      qed W (‵ (Cell s) ∷ []) ∵ updating ! $ use1 W (‵ (fat fullShare (rawTy (D .mir)) l 0 (D .val s))) (W .laws .at-raw fullShare (D .mir) l 0 (D .val s)) $
-      rewrite ! 0 (λ (P : Fml). ‵ P) (sym (D .cell fullShare s l 0)) refl $ owned ! R (Is R) (D .makes 𝓤 H A) s _ is $ move ! (1 ∷ 0 ∷ []) $ fjoin ! $
-      fpack ! (List Val) (λ us. fsep (cellAt fullShare (R .mir) us l 0) (R .own s us)) (D .val s ∷ []) $
+      qed W (‵ (Cell s) ∷ []) ∵ updating ! $ use1 W (‵ (mem R .lies s l 0)) (lies-in s is) $
       use1 W (later (some (λ (δ : GName). ‵ (Lent α δ s) ⊛ ‵ (Kept α δ)))) (lends-ref 𝓤 H A W R (named 0) (α ∷ []) s l 0) $ await ! tt $ at-once ! $ done !
 
   backs : (α : ℕ) (δ : GName) (s : R .Denot) → ent 𝓤 (sep 𝓤 (A .dead (α ∷ [])) (sep 𝓤 (sem 𝓤 H A (Kept α δ)) (A .res δ (R .coded .code s)))) (H .⇛ (guard 𝓤 (Is R s (D .val s ∷ [])) (sem 𝓤 H A (Cell s))))
-  unfolding partOf
   backs α δ s =
       qed W (‵ (fdead (α ∷ [])) ∷ ‵ (Kept α δ) ∷ ‵ (fres δ (R .coded .code s)) ∷ []) ∵ updating ! $ use3 W (later (‵ (mem R .lies s l 0))) (ref-back 𝓤 H A W R (α ∷ []) δ s l 0) $ await ! tt $
-      fpick ! (λ vs. fsplit ! $ move ! (1 ∷ []) $ peeks ! R (Is R) (shows 𝓤 H A R) s vs (λ is. drop ! $ rewrite ! 0 (λ (us : List Val). ‵ (cellAt fullShare (R .mir) us l 0)) (D .tells s vs is) refl $
-      rewrite ! 0 (λ (P : Fml). ‵ P) (D .cell fullShare s l 0) refl $ use1 W (‵ (Cell s)) (W .laws .raw-at fullShare (D .mir) l 0 (D .val s)) $
-      at-once ! $ check ! (subst (λ (us : List Val). Is R s us) (D .tells s vs is) is) $ done !))
+      use1 W (given (Is R s (D .val s ∷ [])) (‵ (Cell s))) (lies-out s) $ at-once ! $ done !
 
   -- s and s′ are the states before and after the call, F and G what else it takes and gives, τ and w its result's type and value, `Known` what is known then
   pub record Lending (C : Calls 𝓤 H) (key : Name) (args : List Val) (τ : Ty) (w : Val) (s s′ : R .Denot) (F G : SProp 𝓤) : Type 2 where

@@ -1,2 +1,3 @@
+pub mod Lendings
 pub mod Lends
 pub mod ServeWalk
