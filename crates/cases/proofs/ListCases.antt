@@ -26,7 +26,8 @@ use Rattle.model.specs.Submissions.{orderList, WholeEngine, modelEngine, orders
 use Rattle.model.specs.History.{marketIn}
 use Rattle.model.specs.WholeRun.{Singly, no-order-left, next-order, ListsKeep}
 use Rattle.cases.specs.Literals.{order}
-use Rattle.cases.specs.ListCases.{fields, place, held, answerNumbers, ordersIn, answersIn, listNumbers, funded, nineOrders, refusedOrders, nineListed, refusedListed, balancesIn, ticketsIn, nineTickets, unitOrders, fullListed, LengthsRefused, LengthsAccepted, nineTold, ListsSilent, mixedRun, mixedTold, mixedNumbers, mixedRead, summedUp, fourPlaced, outcome, oneOrder, oneRequest, sameAgain, FixesLists, sevenEight, upToOne, ListsMet, ListsRefused, SinglyMet, SinglyRefused, oneListed, HousesRefused, EmptyUsed, NothingMet, NothingRefused, OneUsed, CutTold, CutUsed, CutsMet, CutsRefused, ReachUsed}
+use Rattle.cases.specs.KindCases.{answerNumbers}
+use Rattle.cases.specs.ListCases.{fields, place, held, ordersIn, answersIn, listNumbers, funded, nineOrders, refusedOrders, nineListed, refusedListed, balancesIn, ticketsIn, nineTickets, unitOrders, fullListed, LengthsRefused, LengthsAccepted, nineTold, ListsSilent, mixedRun, mixedTold, mixedNumbers, mixedRead, summedUp, fourPlaced, outcome, oneOrder, oneRequest, sameAgain, FixesLists, sevenEight, upToOne, ListsMet, ListsRefused, SinglyMet, SinglyRefused, oneListed, HousesRefused, EmptyUsed, NothingMet, NothingRefused, OneUsed, CutTold, CutUsed, CutsMet, CutsRefused, ReachUsed}
 use Rattle.model.proofs.Codes.{refusal-code}
 use Rattle.model.proofs.Computing.{call-computes, history-computes}
 use Rattle.model.proofs.WholeRun.{whole-run}

@@ -17,14 +17,14 @@ use Rattle.model.specs.declared.answer.Outcome.{Outcome}
 use Rattle.model.specs.declared.order_list.OrderFields.{OrderFields}
 use Rattle.model.specs.declared.order_list.AnswerPlace.{AnswerPlace}
 use Rattle.model.specs.State.{balance, ticket, freshExchange, credit}
-use Rattle.model.specs.Answers.{codeOf, firstOf, secondOf}
 use Rattle.model.specs.Calls.{accept}
 use Rattle.model.specs.Run.{Request, Engine, Event, Reachable, stepOf, fitted, requestOf, afterCalls}
 use Rattle.model.specs.OrderLists.{Listed, ordersOf, OrdersReachable, NothingChanges, CutAlike}
-use Rattle.model.specs.Submissions.{Submission, single, orderList, ListEngine, WholeEngine, modelEngine, eventsOf, stateAfter, toldBy, leftBy, LeftByRun, ReachableIsRun}
+use Rattle.model.specs.Submissions.{Submission, single, orderList, ListEngine, WholeEngine, modelEngine, eventsOf, stateAfter, toldBy, leftBy, ReachableIsRun}
 use Rattle.model.specs.History.{PlacedOrder, no-order, placed, History, historyOf}
 use Rattle.model.specs.WholeRun.{Singly, ListsKeep, WholeRunOf}
 use Rattle.cases.specs.Literals.{order, terms}
+use Rattle.cases.specs.KindCases.{answerNumbers}
 use Rattle.cases.specs.ClauseCases.{moving}
 use Rattle.cases.specs.Pasts.{TokenNumbers, tokenNumbers, tokenIn, MemberNumbers, memberNumbers, memberIn}
 
@@ -41,10 +41,6 @@ place a = record { answer = a }
 -- what every place holds before the call
 abbrev pub held : AnswerPlace
 held = place (Accepted 7 8)
-
--- an answer's code and its two numbers
-abbrev pub answerNumbers : Answer → ℕ × ℕ × ℕ
-answerNumbers a = (codeOf a, firstOf a, secondOf a)
 
 abbrev pub placeNumbers : AnswerPlace → ℕ × ℕ × ℕ
 placeNumbers p = answerNumbers (p .answer)
@@ -504,4 +500,6 @@ pub record ReachUsed : Type 0 where
       OrdersReachable → (fs gs : List OrderFields) (ps qs : List AnswerPlace)
       → Reachable (ordersOf (ordersOf freshExchange fs ps .exchange) gs qs .exchange)
   pub mixed-run : ReachableIsRun → Reachable (stateAfter modelEngine freshExchange mixedRun)
-  pub any-call : ReachableIsRun → (x : Exchange) → Reachable x → (c : Call) → LeftByRun (stepOf x c .exchange)
+  pub any-call :
+      ReachableIsRun → (x : Exchange) → Reachable x → (c : Call)
+      → (ss : List Submission) × (stateAfter modelEngine freshExchange ss ≡ stepOf x c .exchange)
