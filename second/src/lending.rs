@@ -92,8 +92,8 @@ impl Lending {
         self.number
     }
 
-    /// The exchange that the gathered orders would leave. They leave none other
-    /// where they are too many for a list.
+    /// The exchange that the gathered orders would leave; where they are too
+    /// many for a list, the exchange as it is.
     pub fn ahead(&self) -> Exchange {
         let mut ahead = self.exchange.clone();
         let mut answers = vec![Answer::accepted(0, 0); self.gathered.len()];

@@ -15,8 +15,8 @@ use Rattle.model.specs.declared.answer.Refusal.{Refusal}
 use Rattle.model.specs.declared.answer.Refusal.the-variants.{TicketInUse, BufferTooShort, BadOrderList}
 use Rattle.model.specs.declared.answer.Answer.the-variants.{Accepted, Refused}
 use Rattle.model.specs.declared.answer.Outcome.{Outcome}
-use Rattle.model.specs.declared.order_list.OrderFields.{OrderFields}
-use Rattle.model.specs.declared.order_list.AnswerPlace.{AnswerPlace}
+use Rattle.model.specs.declared.orders.OrderFields.{OrderFields}
+use Rattle.model.specs.declared.orders.AnswerPlace.{AnswerPlace}
 use Rattle.model.specs.State.{balance, lastBlock, ticket, freshExchange}
 use Rattle.model.specs.Answers.{codeOf, firstOf, secondOf, answerLine}
 use Rattle.model.specs.Calls.{accept, refuse}

@@ -11,7 +11,7 @@ use Rattle.model.specs.declared.state.TicketState.{TicketState}
 use Rattle.model.specs.declared.call.Call.the-variants.{Enter, Leave}
 use Rattle.model.specs.State.{freshExchange, blankRound, orderIn, restingOr, phase, roundIn, totalsOf}
 use Rattle.model.specs.Calls.{accept}
-use Rattle.model.specs.Run.{stepOf, requestOf}
+use Rattle.model.specs.Run.{stepOf}
 use Rattle.model.specs.Submissions.{single, modelEngine, eventsOf}
 use Rattle.model.specs.History.{absent, historyOf}
 use Rattle.model.specs.WholeRun.{partIn}

@@ -1,5 +1,5 @@
--- Document 02, L5, a morning's orders at once: lists of orders with the answers that the page gives them, worked by hand, every wrong pair of lengths, what a
--- list tells a whole run, and what the statements about lists say, used, met and refused.
+-- Document 02, L5, a morning's orders at once: lists of orders with answers worked by hand from the page, wrong pairs of lengths at every border, and what a
+-- list tells a whole run.
 use Prim.Native.Nat.{ℕ, zero, suc, _+_}
 use mathlib.Core.Path.{_≡_}
 use mathlib.Core.List.{List, [], _∷_, _++_, map}
@@ -14,8 +14,8 @@ use Rattle.model.specs.declared.answer.Refusal.the-variants.{NoSuchMember, NoSu
 use Rattle.model.specs.declared.answer.Answer.{Answer}
 use Rattle.model.specs.declared.answer.Answer.the-variants.{Accepted, Refused}
 use Rattle.model.specs.declared.answer.Outcome.{Outcome}
-use Rattle.model.specs.declared.order_list.OrderFields.{OrderFields}
-use Rattle.model.specs.declared.order_list.AnswerPlace.{AnswerPlace}
+use Rattle.model.specs.declared.orders.OrderFields.{OrderFields}
+use Rattle.model.specs.declared.orders.AnswerPlace.{AnswerPlace}
 use Rattle.model.specs.State.{balance, ticket, freshExchange, credit}
 use Rattle.model.specs.Calls.{accept}
 use Rattle.model.specs.Run.{Request, Engine, Event, Reachable, stepOf, fitted, requestOf, afterCalls}

@@ -138,25 +138,25 @@ module _ {M : Type 1} (𝓤 : URA M) (H : Heap 𝓤) (A : Atoms 𝓤) (W : Given
       learn ! (λ _. rewrite ! 0 (λ (ys : List (R .Denot)). ‵ (ArrayCell ys)) (take-append-drop k xs) refl $ at-once ! $ done !)
 
   -- ---- by &mut, likewise
-  abbrev pub Places : ℕ × GName → Fml
-  Places y = MutSlice (named 0) (y .0 ∷ []) R .own (record { ptr = (l, 0); name = y .1; now = front }) (sliceVal (l, 0) (length front) ∷ [])
+  abbrev pub Mutable : ℕ × GName → Fml
+  Mutable y = MutSlice (named 0) (y .0 ∷ []) R .own (record { ptr = (l, 0); name = y .1; now = front }) (sliceVal (l, 0) (length front) ∷ [])
 
-  abbrev pub PlacesKept : ℕ × GName → Fml
-  PlacesKept y = fsep (flent (y .0 ∷ []) (Held R (length front) l 0 (y .1))) Others
+  abbrev pub MutableKept : ℕ × GName → Fml
+  MutableKept y = fsep (flent (y .0 ∷ []) (Held R (length front) l 0 (y .1))) Others
 
-  abbrev pub LentPlaces : ℕ × GName → SProp 𝓤
-  LentPlaces y = sep 𝓤 (sep 𝓤 (A .lft (y .0 ∷ []) fullShare) (sem 𝓤 H A (Places y))) (sem 𝓤 H A (PlacesKept y))
+  abbrev pub LentMutable : ℕ × GName → SProp 𝓤
+  LentMutable y = sep 𝓤 (sep 𝓤 (A .lft (y .0 ∷ []) fullShare) (sem 𝓤 H A (Mutable y))) (sem 𝓤 H A (MutableKept y))
 
-  pub lend-mut : Room R (length front) → ent 𝓤 (sem 𝓤 H A (ArrayCell xs)) (H .⇛ (ex 𝓤 LentPlaces))
+  pub lend-mut : Room R (length front) → ent 𝓤 (sem 𝓤 H A (ArrayCell xs)) (H .⇛ (ex 𝓤 LentMutable))
   lend-mut room =
       qed W (‵ (ArrayCell xs) ∷ []) ∵ updating ! $ use1 W (‵ (row R fullShare front l 0) ⊛ ‵ Others) apart $ split ! $ use1 W (‵ (cells (mem R) front l 0)) (whole-in 𝓤 H A W R front l 0) $ lft-new ! tt (λ β. move ! (1 ∷ []) $
-      use1 W (later (some (λ (γ : GName). ‵ (Places (β, γ)) ⊛ ‵ (flent (β ∷ []) (Held R (length front) l 0 γ))))) (lends-slice 𝓤 H A W R (named 0) (β ∷ []) front l 0 room) $
-      await ! tt $ pick ! (λ γ. split ! $ at-once ! $ show ! LentPlaces (β, γ) $ move ! (2 ∷ 0 ∷ []) $ join ! $ frame ! $ fjoin ! $ done !))
+      use1 W (later (some (λ (γ : GName). ‵ (Mutable (β, γ)) ⊛ ‵ (flent (β ∷ []) (Held R (length front) l 0 γ))))) (lends-slice 𝓤 H A W R (named 0) (β ∷ []) front l 0 room) $
+      await ! tt $ pick ! (λ γ. split ! $ at-once ! $ show ! LentMutable (β, γ) $ move ! (2 ∷ 0 ∷ []) $ join ! $ frame ! $ fjoin ! $ done !))
 
-  pub mut-back : (y : ℕ × GName) (ys : List (R .Denot)) → ent 𝓤 (sep 𝓤 (sep 𝓤 (A .lft (y .0 ∷ []) fullShare) (sem 𝓤 H A (finally R (y .1) ys))) (sem 𝓤 H A (PlacesKept y)))
+  pub mut-back : (y : ℕ × GName) (ys : List (R .Denot)) → ent 𝓤 (sep 𝓤 (sep 𝓤 (A .lft (y .0 ∷ []) fullShare) (sem 𝓤 H A (finally R (y .1) ys))) (sem 𝓤 H A (MutableKept y)))
       (H .⇛ (guard 𝓤 (Is (Array R n) (ys ++ drop k xs) (array-one R D n .val (ys ++ drop k xs) ∷ [])) (sem 𝓤 H A (ArrayCell (ys ++ drop k xs)))))
   mut-back y ys =
-      qed W ((‵ (flft (y .0 ∷ []) fullShare) ⊛ ‵ (finally R (y .1) ys)) ∷ ‵ (PlacesKept y) ∷ []) ∵ updating ! $ split ! $ lft-end ! tt $ move ! (2 ∷ []) $ fsplit ! $
+      qed W ((‵ (flft (y .0 ∷ []) fullShare) ⊛ ‵ (finally R (y .1) ys)) ∷ ‵ (MutableKept y) ∷ []) ∵ updating ! $ split ! $ lft-end ! tt $ move ! (2 ∷ []) $ fsplit ! $
       -- [what the lender keeps; the others; the lifetime is over; the last elements]
       move ! (2 ∷ 0 ∷ 3 ∷ []) $ use3 W (later (‵ (Arr (mem R) (length front) .lies ys l 0))) (slice-back 𝓤 H A W R (y .0 ∷ []) (y .1) ys (length front) l 0) $ await ! tt $
       fsplit ! $ feqL ! (λ len. use1 W (‵ (row R fullShare ys l 0)) (whole-out 𝓤 H A W R ys l 0) $

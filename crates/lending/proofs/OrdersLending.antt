@@ -32,10 +32,10 @@ use Rattle.model.proofs.answer.Answer as N
 use Rattle.model.proofs.answer.Answer.Laws as N′
 use Rattle.model.specs.Run.{Reachable}
 use Rattle.model.specs.OrderLists.{Listed, ordersOf}
-use Rattle.model.specs.declared.order_list.OrderFields.{OrderFields}
-use Rattle.model.specs.declared.order_list.AnswerPlace.{AnswerPlace}
-use Rattle.model.proofs.order_list.OrderFields as F
-use Rattle.model.proofs.order_list.AnswerPlace as P
+use Rattle.model.specs.declared.orders.OrderFields.{OrderFields}
+use Rattle.model.specs.declared.orders.AnswerPlace.{AnswerPlace}
+use Rattle.model.proofs.orders.OrderFields as F
+use Rattle.model.proofs.orders.AnswerPlace as P
 use Rattle.lent.proofs.Values.{answer-vals}
 use Rattle.lent.proofs.place_orders_lent as place
 use Rattle.lent.proofs.place_orders_lent.Symbol.{name as #lent·place-orders-lent}

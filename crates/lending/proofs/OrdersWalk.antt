@@ -1,6 +1,6 @@
--- The walk of `{ let mut exchange = x; let mut places = before; let answer = place_orders_lent(&mut exchange, &list[..n], &mut places[..m]); Listed { answer, places, exchange } }` over any types:
--- B the array of orders, P that of places, τF and τN the elements' types behind a reference, τA the answer's, τV that of what is returned. `Lends.antt` of `host` has what a lending is, and
--- `LendsArray.antt` how an array is lent. Assumes `Given`.
+-- The walk of `{ let mut exchange = x; let mut places = before; let answer = place_orders_lent(&mut exchange, &list[..n], &mut places[..m]); ListOutcome { answer, places, exchange } }` over any types:
+-- B the array of orders, P that of places; τR, τB and τP the types of the state and of these behind a reference, τF and τN those of their elements; τA the answer's, τV that of what is returned.
+-- `Lends.antt` of `host` has what a lending is, and `LendsArray.antt` how an array is lent. Assumes `Given`.
 use mathlib.Core.Path.{_≡_, refl}
 use Prim.Native.Nat.{ℕ, _<_, _^_}
 use mathlib.Core.List.{[], _∷_, List}

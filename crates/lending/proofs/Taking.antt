@@ -1,5 +1,5 @@
 -- A line taken: the state that it leaves, and the bytes that its answer takes.
-use mathlib.Core.List.{List, []}
+use mathlib.Core.List.{List}
 use Prim.Native.Nat.{ℕ, _≤_}
 use native.Mathlib.Omega.{arith}
 use lib.Dec.{ltb}

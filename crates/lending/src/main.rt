@@ -1,5 +1,13 @@
-// Runs the three lent forms as compiled code, over one exchange: it reads lines from standard input, hands each to one of them and prints what it answers.
-// Its stored output is the second engine's (tests/stored).
+// Runs the three lent forms as compiled code, over one exchange. Its stored output is the second engine's (tests/stored).
+//
+// Standard input has lines as the day's are, numbered from 1, at most 1,048,576 bytes in all. Of each line the first that applies:
+// - It is 0 and one number m, as 0,m: the orders gathered so far are placed by place_orders_lent, with m places, at most 65. Before the call place i, from
+//   0 on, holds an acceptance with i and 4294967295. The call's own answer is printed as an answer line, and then every place, with its number i. After it, refused or
+//   not, no order is gathered.
+// - It is an order, and fewer than 65 are gathered: it is gathered, and nothing is printed.
+// - Its number is even, and it is a call: it is made by step_lent, and its answer line is printed.
+// - It is taken by take_line_lent, into 35 bytes; where its number divided by 8 leaves 1, into as many as the quotient leaves divided by 32. The answer line is printed;
+//   where it does not fit, one that tells 21.
 ghost use mathlib.Core.Path.{_≡_};
 ghost use mathlib.Core.List.{_++_};
 ghost use Prim.Native.Nat.{_<_, _≤_};
@@ -22,15 +30,17 @@ use lines::call::read_call;
 use model::answer::Answer;
 use model::answer::Outcome;
 use model::call::Call;
-use model::order_list::AnswerPlace;
-use model::order_list::OrderFields;
+use model::orders::AnswerPlace;
+use model::orders::OrderFields;
 use model::state::Exchange;
 use model::state::fresh;
 use replay::line::Answered;
 use replay::line::Taken;
 
+// The most bytes of a line before its byte 10.
 const LONGEST_LINE: usize = 80;
 
+// The most bytes of input.
 const LONGEST_INPUT: usize = 1_048_576;
 
 // One more than an order list may have.
@@ -163,7 +173,7 @@ fn print_answered(number: u32, answered: Answered, out: &[u8]) -> bool
 
 // ---- one line
 
-// Whether a line is well-formed and has just two numbers, of which the first is 0.
+// The places that a line asks for, where it is 0 and one number.
 fn places_asked(line: &[u8]) -> Asked {
     if LONGEST_LINE < line.len() {
         return Asked::NoList;
@@ -182,7 +192,7 @@ fn places_asked(line: &[u8]) -> Asked {
     Asked::Places(v[1])
 }
 
-// As many places as there are, at most.
+// The places asked for, at most 65.
 fn within_places(asked: u32) -> usize
     ensures { λ r. ⌜ r ≤ 65 ⌝ }
 {
@@ -344,7 +354,8 @@ fn take_call(h: Host, number: u32, line: &[u8], c: Call) -> Turn
 }
 
 // A line, without its byte 10.
-fn take(h: Host, number: u32, line: &[u8]) -> Turn
+// A line by the first of the four that applies.
+fn take_one(h: Host, number: u32, line: &[u8]) -> Turn
     requires { ⌜ Reachable (h .exchange) ⌝ }
     requires { ⌜ h .count ≤ 65 ⌝ }
     ensures { λ r. ⌜ Reachable (r .host .exchange) ⌝ }
@@ -392,7 +403,7 @@ fn take_lines(input: &[u8]) -> bool
     while from < input.len() {
         let end = line_end(input, from);
         number = number + 1;
-        let turn = take(h, number, &input[from..end]);
+        let turn = take_one(h, number, &input[from..end]);
         if !turn.written {
             return false;
         }

@@ -17,7 +17,7 @@ unfoldable pub call-computes : Unit {0}
 unfolding stepOf highBound lowBound matchBase matchQuote lowerQuote tradeWithin auctionPrice quoteFor sharePaid shareGot down up sumTo bit inserted removed countOf cellOf withCell creditedRow debitedRow rowOf withRow balanceIn credited debited freshLedger
 call-computes = tt
 
--- a list of requests
+-- a list of requests, without lists of orders
 unfoldable pub run-computes : Unit {0}
 unfolding call-computes requestsFrom eventsOf stateAfter requestOf answerLine digits
 run-computes = tt

@@ -13,8 +13,8 @@ use Rattle.model.specs.Run.{Reachable, after-call, afterCalls, answersTo
 use Rattle.model.specs.declared.answer.Answer.{Answer}
 use Rattle.model.specs.declared.answer.Refusal.the-variants.{BadOrderList}
 use Rattle.model.specs.declared.call.Call.{Call}
-use Rattle.model.specs.declared.order_list.AnswerPlace.{AnswerPlace}
-use Rattle.model.specs.declared.order_list.OrderFields.{OrderFields}
+use Rattle.model.specs.declared.orders.AnswerPlace.{AnswerPlace}
+use Rattle.model.specs.declared.orders.OrderFields.{OrderFields}
 use Rattle.model.specs.declared.state.Exchange.{Exchange}
 
 -- ---- the two cases
@@ -34,7 +34,7 @@ pub list-apart : (x : Exchange) (fs : List OrderFields) (ps : List AnswerPlace) 
 unfolding ordersOf
 list-apart x fs ps C r d = tested (length fs) (length ps) (λ (t : Bool). C (cond t (listRefused x ps BadOrderList) (listDone x fs))) r d
 
-pub list-accepted : (x : Exchange) (fs : List OrderFields) (ps : List AnswerPlace) → length fs ≡ length ps → length fs ≤ mostOrders → ordersOf x fs ps ≡ listDone x fs
+list-accepted : (x : Exchange) (fs : List OrderFields) (ps : List AnswerPlace) → length fs ≡ length ps → length fs ≤ mostOrders → ordersOf x fs ps ≡ listDone x fs
 unfolding ordersOf
 list-accepted x fs ps e l =
     ap (λ (t : Bool). cond t (listRefused x ps BadOrderList) (listDone x fs))
@@ -52,7 +52,7 @@ orders-reachable x l fs ps = list-apart x fs ps (λ (d : Listed). Reachable (d .
 
 -- ---- runs of calls, one after the other
 
-pub calls-more : (x : Exchange) (cs ds : List Call) → afterCalls x (cs ++ ds) ≡ afterCalls (afterCalls x cs) ds
+calls-more : (x : Exchange) (cs ds : List Call) → afterCalls x (cs ++ ds) ≡ afterCalls (afterCalls x cs) ds
 unfolding afterCalls
 calls-more x [] ds = refl
 calls-more x (c ∷ cs) ds = calls-more (stepOf x c .exchange) cs ds

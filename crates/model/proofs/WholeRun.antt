@@ -11,7 +11,7 @@ use Rattle.model.specs.Answers.{answerLine, codeOf}
 use Rattle.model.specs.Bounds.{TicketBounds}
 use Rattle.model.specs.Calls.{claimWith, doneOf, refuse, testsOf}
 use Rattle.model.specs.History.{Current, History, RoundLog, OrderTerms, historyFrom, historyOf, idle, noHistory, running, settled, withEvent}
-use Rattle.model.specs.OrderLists.{Listed, listDone, listRefused, orderCall, ordersOf, placeOf}
+use Rattle.model.specs.OrderLists.{Listed, listDone, orderCall, ordersOf}
 use Rattle.model.specs.Run.{Event, Request, afterCalls, answersToCalls, requestOf, stepOf}
 use Rattle.model.specs.Submissions.{Submission, eventsOf, leftBy, listTold, modelEngine, orderList, ordersTold, single, stateAfter, toldBy}
 use Rattle.model.specs.State.{closedMarket, freeTicket, freshExchange, isEntered, isFree, isPaying, orderIn, phase, roundIn, ticket}
@@ -21,8 +21,8 @@ use Rattle.model.specs.declared.answer.Outcome.{Outcome}
 use Rattle.model.specs.declared.answer.Refusal.{Refusal}
 use Rattle.model.specs.declared.answer.Refusal.the-variants.{BufferTooShort}
 use Rattle.model.specs.declared.call.Call.{Call}
-use Rattle.model.specs.declared.order_list.AnswerPlace.{AnswerPlace}
-use Rattle.model.specs.declared.order_list.OrderFields.{OrderFields}
+use Rattle.model.specs.declared.orders.AnswerPlace.{AnswerPlace}
+use Rattle.model.specs.declared.orders.OrderFields.{OrderFields}
 use Rattle.model.specs.declared.state.Exchange.{Exchange}
 use Rattle.model.specs.declared.state.Market.{Market}
 use Rattle.model.specs.declared.state.Order.{Order}

@@ -6,8 +6,8 @@ use mathlib.Core.Path.{_≡_}
 use Rattle.model.specs.declared.state.Exchange.{Exchange}
 use Rattle.model.specs.declared.answer.Answer.{Answer}
 use Rattle.model.specs.declared.answer.Answer.the-variants.{Accepted, Refused}
-use Rattle.model.specs.declared.order_list.OrderFields.{OrderFields}
-use Rattle.model.specs.declared.order_list.AnswerPlace.{AnswerPlace}
+use Rattle.model.specs.declared.orders.OrderFields.{OrderFields}
+use Rattle.model.specs.declared.orders.AnswerPlace.{AnswerPlace}
 use Rattle.model.specs.State.{freshExchange}
 use Rattle.model.specs.Run.{Request, Engine, requestOf, Event, Reachable}
 use Rattle.model.specs.OrderLists.{Listed, orderCall, ordersOf}
@@ -30,7 +30,7 @@ pub record WholeEngine : Type 0 where
 abbrev pub modelEngine : WholeEngine
 modelEngine = record { request = requestOf; orderList = ordersOf }
 
--- each order of a list with the answer in its place
+-- each order of a list with the answer in its place; an order past the last answer would go untold, which `all-answered` of the statement rules out
 unfoldable pub ordersTold : List OrderFields → List AnswerPlace → List Event
 ordersTold [] ps = []
 ordersTold (f ∷ fs) [] = []

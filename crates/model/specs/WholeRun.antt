@@ -25,8 +25,8 @@ use Rattle.model.specs.declared.call.Call.the-variants as Call
 use Rattle.model.specs.declared.answer.Answer.the-variants.{Accepted, Refused}
 use Rattle.model.specs.declared.answer.Refusal.{Refusal}
 use Rattle.model.specs.declared.answer.Outcome.{Outcome}
-use Rattle.model.specs.declared.order_list.OrderFields.{OrderFields}
-use Rattle.model.specs.declared.order_list.AnswerPlace.{AnswerPlace}
+use Rattle.model.specs.declared.orders.OrderFields.{OrderFields}
+use Rattle.model.specs.declared.orders.AnswerPlace.{AnswerPlace}
 use Rattle.model.specs.Sides.{offered, wanted}
 use Rattle.model.specs.State.{balance, supply, residue, ticket, freeTicket, restingOr, freshExchange}
 use Rattle.model.specs.Answers.{answerLine}
@@ -223,7 +223,7 @@ pub record ListsKeep (e : WholeEngine) (x : Exchange) : Type 0 where
   pub refused-leaves :
       (orders : List OrderFields) (places : List AnswerPlace) (why : Refusal) → e .orderList x orders places .answer ≡ Refused why
       → (e .orderList x orders places .exchange ≡ x) × (e .orderList x orders places .answers ≡ places)
-  -- an accepted list has as many answers as orders, so that each order is told, and no more than there are places
+  -- an accepted list has as many answers as orders, so that each order is told, and as places, so that lists of different lengths are refused
   pub all-answered :
       (orders : List OrderFields) (places : List AnswerPlace) (a b : ℕ) → e .orderList x orders places .answer ≡ Accepted a b
       → (length (e .orderList x orders places .answers) ≡ length orders) × (length (e .orderList x orders places .answers) ≡ length places)

@@ -1,5 +1,5 @@
 // The exchange that everything else is proved against: its state, its calls and its answers. The calls' meaning stands in specs/.
 pub mod answer;
 pub mod call;
-pub mod order_list;
+pub mod orders;
 pub mod state;

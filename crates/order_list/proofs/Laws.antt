@@ -11,8 +11,8 @@ use Rattle.model.specs.declared.state.Exchange.{Exchange}
 use Rattle.model.specs.declared.answer.Answer.{Answer}
 use Rattle.model.specs.declared.answer.Answer.the-variants.{Accepted, Refused}
 use Rattle.model.specs.declared.answer.Refusal.the-variants.{BadOrderList}
-use Rattle.model.specs.declared.order_list.OrderFields.{OrderFields}
-use Rattle.model.specs.declared.order_list.AnswerPlace.{AnswerPlace}
+use Rattle.model.specs.declared.orders.OrderFields.{OrderFields}
+use Rattle.model.specs.declared.orders.AnswerPlace.{AnswerPlace}
 use Rattle.model.specs.Run.{afterCalls, answersToCalls}
 use Rattle.model.specs.OrderLists.{Listed, listDone, listRefused, ordersOf}
 use Rattle.model.proofs.OrderLists.{all-answered, done-answers, done-state, tested}

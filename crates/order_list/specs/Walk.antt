@@ -4,7 +4,7 @@ use Rattle.units.specs.Decide.{decide}
 use Rattle.model.specs.declared.state.Exchange.{Exchange}
 use Rattle.model.specs.declared.answer.Answer.{Answer}
 use Rattle.model.specs.declared.answer.Answer.the-variants.{Accepted, Refused}
-use Rattle.model.specs.declared.order_list.OrderFields.{OrderFields}
+use Rattle.model.specs.declared.orders.OrderFields.{OrderFields}
 use Rattle.model.specs.OrderLists.{orderCall, placeOf, listTests}
 use Rattle.model.specs.Run.{stepOf}
 use Rattle.order_list.specs.declared.PlacedOne.{PlacedOne}

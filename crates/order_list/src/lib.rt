@@ -7,8 +7,8 @@ use exchange::order;
 use model::answer::Answer;
 use model::answer::Outcome;
 use model::answer::Refusal;
-use model::order_list::AnswerPlace;
-use model::order_list::OrderFields;
+use model::orders::AnswerPlace;
+use model::orders::OrderFields;
 use model::state::Exchange;
 
 // "up to 64"

@@ -44,12 +44,12 @@ use Rattle.model.proofs.answer.Answer as N
 use Rattle.model.proofs.answer.Answer.Laws as N′
 use Rattle.model.specs.Run.{Reachable}
 use Rattle.model.specs.OrderLists.{Listed, ordersOf}
-use Rattle.model.specs.declared.order_list.OrderFields.{OrderFields}
-use Rattle.model.specs.declared.order_list.AnswerPlace.{AnswerPlace}
-use Rattle.model.proofs.order_list.OrderFields as F
-use Rattle.model.proofs.order_list.OrderFields.Laws as F′
-use Rattle.model.proofs.order_list.AnswerPlace as P
-use Rattle.model.proofs.order_list.AnswerPlace.Laws as P′
+use Rattle.model.specs.declared.orders.OrderFields.{OrderFields}
+use Rattle.model.specs.declared.orders.AnswerPlace.{AnswerPlace}
+use Rattle.model.proofs.orders.OrderFields as F
+use Rattle.model.proofs.orders.OrderFields.Laws as F′
+use Rattle.model.proofs.orders.AnswerPlace as P
+use Rattle.model.proofs.orders.AnswerPlace.Laws as P′
 use Rattle.lent.proofs.Values.{state-vals, answer-vals}
 use Rattle.lent.proofs.place_orders_lent.Symbol as place-def
 use Rattle.lent.proofs.place_orders_lent.Symbol.{name as #lent·place-orders-lent}
@@ -58,7 +58,7 @@ use Rattle.lending.specs.declared.ListOutcome.{ListOutcome}
 use Rattle.lending.proofs.ListOutcome as S
 use Rattle.lending.proofs.ListOutcome.Laws as S′
 use Rattle.host.proofs.Lendings.{one}
-use Rattle.lending.proofs.LendsArray.{Elem, array-one, array-into, front-length, Shared, SharedKept, lend-shared, shared-back, Places, PlacesKept, lend-mut, mut-back}
+use Rattle.lending.proofs.LendsArray.{Elem, array-one, array-into, front-length, Shared, SharedKept, lend-shared, shared-back, Mutable, MutableKept, lend-mut, mut-back}
 use Rattle.lending.proofs.OrdersLending.{Place, lends-place}
 use Rattle.lending.proofs.OrdersWalk.{steps}
 use Rattle.lending.proofs.lend_orders.Key.{name as #lending·lend-orders}
@@ -167,9 +167,9 @@ module _ {M : Type 1} (𝓤 : URA M) (H : Heap 𝓤) (A : Atoms 𝓤) (W : Given
         l₀ l₁ l₂ l₃ l₄ l₅ l₆ l₇ l₈ l₉ l₁₀ l₁₁ l₁₂ l₁₃ l₁₄ l₁₅ l₁₆ (length (take n os)) (length (take m ps)) Post s (told .exchange) os ps (told .places) (only (answer-vals (told .answer))) (n-room .0) (m-room .0) s-is os-is ps-is
         (λ y. sep 𝓤 (A .lft (y .0 ∷ []) fullShare) (sem 𝓤 H A (Shared 𝓤 H A W F.the-row (order 𝓤 H A W) 65 n l₆ os os-is (g .1) y))) (λ y. A .lft (y .0 ∷ []) fullShare)
         (λ y. sem 𝓤 H A (SharedKept 𝓤 H A W F.the-row (order 𝓤 H A W) 65 n l₆ os os-is (g .1) y))
-        (λ y. sep 𝓤 (A .lft (y .0 ∷ []) fullShare) (sem 𝓤 H A (Places 𝓤 H A W P.the-row (place 𝓤 H A W) 65 m l₈ ps ps-is (g .2) y)))
+        (λ y. sep 𝓤 (A .lft (y .0 ∷ []) fullShare) (sem 𝓤 H A (Mutable 𝓤 H A W P.the-row (place 𝓤 H A W) 65 m l₈ ps ps-is (g .2) y)))
         (λ y. sep 𝓤 (A .lft (y .0 ∷ []) fullShare) (sem 𝓤 H A (finally P.the-row (y .1) (listed .answers))))
-        (λ y. sem 𝓤 H A (PlacesKept 𝓤 H A W P.the-row (place 𝓤 H A W) 65 m l₈ ps ps-is (g .2) y))
+        (λ y. sem 𝓤 H A (MutableKept 𝓤 H A W P.the-row (place 𝓤 H A W) 65 m l₈ ps ps-is (g .2) y))
         (lend-shared 𝓤 H A W F.the-row (order 𝓤 H A W) 65 n l₆ os os-is (g .1) n-room) (shared-back 𝓤 H A W F.the-row (order 𝓤 H A W) 65 n l₆ os os-is (g .1))
         (lend-mut 𝓤 H A W P.the-row (place 𝓤 H A W) 65 m l₈ ps ps-is (g .2) m-room) (λ y. mut-back 𝓤 H A W P.the-row (place 𝓤 H A W) 65 m l₈ ps ps-is (g .2) y (listed .answers))
         (λ y z. lends-place 𝓤 H A W at-mem run (y .0 ∷ []) (z .0 ∷ []) fullShare fullShare (orders-at l₆ y) (places-at l₈ z) l₇ s (g .0) C place-known)

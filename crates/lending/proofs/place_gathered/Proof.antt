@@ -3,8 +3,8 @@ use mathlib.Core.Path.{_≡_, sym, subst}
 use mathlib.Core.List.{List}
 use native.Mathlib.Omega.{arith}
 use Rattle.model.specs.declared.state.Exchange.{Exchange}
-use Rattle.model.specs.declared.order_list.OrderFields.{OrderFields}
-use Rattle.model.specs.declared.order_list.AnswerPlace.{AnswerPlace}
+use Rattle.model.specs.declared.orders.OrderFields.{OrderFields}
+use Rattle.model.specs.declared.orders.AnswerPlace.{AnswerPlace}
 use Rattle.model.specs.Run.{Reachable}
 use Rattle.model.specs.OrderLists.{ordersOf}
 use Rattle.model.proofs.OrderLists.{orders-reachable}

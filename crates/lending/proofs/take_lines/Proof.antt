@@ -33,17 +33,17 @@ line-end-requires c κs = search needs
 add-number : tie.Need-add-number Inv-loop μ-loop
 add-number c = search needs
 
-sub-take : tie.Need-sub-take Inv-loop μ-loop
-sub-take c = search needs
+sub-take-one : tie.Need-sub-take-one Inv-loop μ-loop
+sub-take-one c = search needs
 
-part-take-start : tie.Need-part-take-start Inv-loop μ-loop
-part-take-start c = search needs
+part-take-one-start : tie.Need-part-take-one-start Inv-loop μ-loop
+part-take-one-start c = search needs
 
-part-take-end : tie.Need-part-take-end Inv-loop μ-loop
-part-take-end c = ends _ _ _ (c .line-end .ensures) (omega arith)
+part-take-one-end : tie.Need-part-take-one-end Inv-loop μ-loop
+part-take-one-end c = ends _ _ _ (c .line-end .ensures) (omega arith)
 
-take-requires : tie.Need-take-requires Inv-loop μ-loop
-take-requires c κs = search needs
+take-one-requires : tie.Need-take-one-requires Inv-loop μ-loop
+take-one-requires c κs = search needs
 
 returns : tie.Need-returns Inv-loop μ-loop
 returns c = search needs
@@ -73,10 +73,10 @@ take-lines-spec =
     loop-holds
     line-end-requires
     add-number
-    sub-take
-    part-take-start
-    part-take-end
-    take-requires
+    sub-take-one
+    part-take-one-start
+    part-take-one-end
+    take-one-requires
     returns
     add-from
     loop-less

@@ -40,10 +40,9 @@ use denote.Triple.Table.{entered, cited}
 use denote.Triple.Walked.{says, needs, Stays, stay-ref, stay-none-slice, gave-slice, walkOf, AllGo, goes-ref, goes-none-slice, goes-gave-slice, Walks, ends-at, walked, walk-meets}
 use denote.Exit.{yes}
 use Rattle.model.specs.declared.state.Exchange.{Exchange}
-use Rattle.model.specs.declared.answer.Answer.{Answer}
 use Rattle.model.specs.declared.answer.Outcome.{Outcome}
-use Rattle.model.specs.declared.order_list.OrderFields.{OrderFields}
-use Rattle.model.specs.declared.order_list.AnswerPlace.{AnswerPlace}
+use Rattle.model.specs.declared.orders.OrderFields.{OrderFields}
+use Rattle.model.specs.declared.orders.AnswerPlace.{AnswerPlace}
 use Rattle.model.specs.Run.{Reachable}
 use Rattle.model.specs.OrderLists.{Listed, ordersOf}
 use Rattle.model.proofs.state.Exchange as X
@@ -52,9 +51,9 @@ use Rattle.model.proofs.answer.Answer as N
 use Rattle.model.proofs.answer.Answer.Laws as N′
 use Rattle.model.proofs.answer.Outcome as O
 use Rattle.model.proofs.answer.Outcome.Laws as O′
-use Rattle.model.proofs.order_list.OrderFields as F
-use Rattle.model.proofs.order_list.AnswerPlace as L
-use Rattle.model.proofs.order_list.AnswerPlace.Laws as L′
+use Rattle.model.proofs.orders.OrderFields as F
+use Rattle.model.proofs.orders.AnswerPlace as L
+use Rattle.model.proofs.orders.AnswerPlace.Laws as L′
 use Rattle.lent.proofs.Values.{state-vals, answer-vals}
 use Rattle.lent.proofs.ListWalk.{steps, leaves}
 use Rattle.order_list.proofs.place_orders as orders
