@@ -1,6 +1,6 @@
 -- Lists of orders, computed.
 use Prim.Native.Nat.{ℕ, suc, _≤_}
-use mathlib.Core.Path.{_≡_, _∙_, ap, refl, subst}
+use mathlib.Core.Path.{_≡_, _∙_, ap, refl, subst, sym}
 use mathlib.Core.Bool.{Bool, cond}
 use mathlib.Core.List.{List, [], _∷_, map}
 use native.Mathlib.Omega.{arith}
@@ -20,14 +20,14 @@ use Rattle.model.specs.declared.orders.AnswerPlace.{AnswerPlace}
 use Rattle.model.specs.State.{balance, lastBlock, ticket, freshExchange}
 use Rattle.model.specs.Answers.{codeOf, firstOf, secondOf, answerLine}
 use Rattle.model.specs.Calls.{accept, refuse}
-use Rattle.model.specs.Run.{Engine, at-first, after-call, stepOf, requestOf, afterCalls, answersToCalls}
+use Rattle.model.specs.Run.{Request, Engine, Event, at-first, after-call, stepOf, requestOf, afterCalls, answersToCalls}
 use Rattle.model.specs.OrderLists.{Listed, orderCall, ordersOf, EmptyList, ListOfOne, CutAlike, ListsCut}
-use Rattle.model.specs.Submissions.{orderList, WholeEngine, modelEngine, ordersTold, eventsOf, stateAfter, toldBy}
+use Rattle.model.specs.Submissions.{single, orderList, WholeEngine, modelEngine, ordersTold, eventsOf, stateAfter, toldBy, SpelledOut, RunsSpelledOut}
 use Rattle.model.specs.History.{marketIn}
 use Rattle.model.specs.WholeRun.{Singly, no-order-left, next-order, ListsKeep}
 use Rattle.cases.specs.Literals.{order}
 use Rattle.cases.specs.KindCases.{answerNumbers}
-use Rattle.cases.specs.ListCases.{fields, place, held, ordersIn, answersIn, listNumbers, funded, nineOrders, refusedOrders, nineListed, refusedListed, balancesIn, ticketsIn, nineTickets, unitOrders, fullListed, LengthsRefused, LengthsAccepted, nineTold, ListsSilent, mixedRun, mixedTold, mixedNumbers, mixedRead, summedUp, fourPlaced, outcome, oneOrder, oneRequest, sameAgain, FixesLists, sevenEight, upToOne, ListsMet, ListsRefused, SinglyMet, SinglyRefused, oneListed, HousesRefused, EmptyUsed, NothingMet, NothingRefused, OneUsed, CutTold, CutUsed, CutsMet, CutsRefused, ReachUsed}
+use Rattle.cases.specs.ListCases.{fields, place, held, ordersIn, answersIn, listNumbers, funded, nineOrders, refusedOrders, nineListed, refusedListed, balancesIn, ticketsIn, nineTickets, unitOrders, fullListed, LengthsRefused, LengthsAccepted, nineTold, ListsSilent, mixedRun, mixedTold, mixedNumbers, mixedRead, summedUp, fourPlaced, outcome, oneOrder, oneRequest, sameAgain, FixesLists, sevenEight, upToOne, ListsMet, ListsRefused, SinglyMet, SinglyRefused, oneListed, HousesRefused, EmptyUsed, NothingMet, NothingRefused, OneUsed, CutTold, CutUsed, CutsMet, CutsRefused, ReachUsed, SpelledUsed, SpelledRefused}
 use Rattle.model.proofs.Codes.{refusal-code}
 use Rattle.model.proofs.Computing.{call-computes, history-computes}
 use Rattle.model.proofs.WholeRun.{whole-run}
@@ -352,4 +352,24 @@ reach-used =
       two-lists = λ h fs gs ps qs. h _ (h freshExchange at-first fs ps) gs qs;
       mixed-run = λ h. h _ .1 (mixedRun, refl);
       any-call = λ h x r c. h _ .0 (after-call r c);
+    }
+
+-- ---- lists of orders spelled out
+
+mixed-left : balance (stateAfter modelEngine freshExchange mixedRun) 1 1 ≡ 1
+unfolding nineOrders mixedRun list-computes history-computes
+mixed-left = refl
+
+pub spelled-used : RunsSpelledOut → SpelledUsed
+spelled-used h =
+    let p : SpelledOut freshExchange (eventsOf modelEngine freshExchange mixedRun) (stateAfter modelEngine freshExchange mixedRun) = h freshExchange mixedRun in
+    (p .requests, p .tell ∙ mixed-told, ap (λ (x : Exchange). balance x 1 1) (p .leave) ∙ mixed-left)
+
+pub spelled-refused : SpelledRefused
+unfolding history-computes
+spelled-refused =
+    record {
+      untold = λ x p e. let z : _≡_ {A = ℕ} 0 1 = sym (ap (λ (qs : List Request). length (eventsOf modelEngine x (map single qs))) e) ∙ ap (λ (es : List Event). length es) (p .tell) in omega (arith, z);
+      unmoved =
+          λ p e. let z : _≡_ {A = ℕ} 0 10 = sym (ap (λ (qs : List Request). balance (stateAfter modelEngine freshExchange (map single qs)) 0 0) e) ∙ ap (λ (x : Exchange). balance x 0 0) (p .leave) in omega (arith, z);
     }

@@ -20,7 +20,7 @@ use Rattle.model.specs.State.{balance, ticket, freshExchange, credit}
 use Rattle.model.specs.Calls.{accept}
 use Rattle.model.specs.Run.{Request, Engine, Event, Reachable, stepOf, fitted, requestOf, afterCalls}
 use Rattle.model.specs.OrderLists.{Listed, ordersOf, OrdersReachable, NothingChanges, CutAlike}
-use Rattle.model.specs.Submissions.{Submission, single, orderList, ListEngine, WholeEngine, modelEngine, eventsOf, stateAfter, toldBy, leftBy, ReachableIsRun}
+use Rattle.model.specs.Submissions.{Submission, single, orderList, ListEngine, WholeEngine, modelEngine, eventsOf, stateAfter, toldBy, leftBy, ReachableIsRun, SpelledOut}
 use Rattle.model.specs.History.{PlacedOrder, no-order, placed, History, historyOf}
 use Rattle.model.specs.WholeRun.{Singly, ListsKeep, WholeRunOf}
 use Rattle.cases.specs.Literals.{order, terms}
@@ -503,3 +503,13 @@ pub record ReachUsed : Type 0 where
   pub any-call :
       ReachableIsRun → (x : Exchange) → Reachable x → (c : Call)
       → (ss : List Submission) × (stateAfter modelEngine freshExchange ss ≡ stepOf x c .exchange)
+
+-- the run of above as requests alone: the same eighteen events, and 1 of token 1 left with member 1
+abbrev pub SpelledUsed : Type 0
+SpelledUsed =
+    (qs : List Request) × (eventsOf modelEngine freshExchange (map single qs) ≡ mixedTold) × (balance (stateAfter modelEngine freshExchange (map single qs)) 1 1 ≡ 1)
+
+-- a deposit spelled out as nothing, or with what it leaves forgotten
+pub record SpelledRefused : Type 0 where
+  pub untold : (x : Exchange) → (p : SpelledOut x (event (Deposit 0 0 10) (Accepted 10 0) ∷ []) x) → p .requests ≡ [] → ⊥
+  pub unmoved : (p : SpelledOut freshExchange [] (credit freshExchange 0 0 10)) → p .requests ≡ [] → ⊥

@@ -1,7 +1,7 @@
 -- The list of a whole run: requests, and the calls on the house that have no line. "The list holds any of the ten calls with any fields, accepted or turned
 -- down, 21 included, and any call on the house that is added later". A call that is added without a line is a case of `Submission`, a function of
 -- `WholeEngine`, a clause of `toldBy` and of `leftBy`, and what the statement says of it a part of `WholeHouse` (WholeRun.antt).
-use mathlib.Core.List.{List, [], _∷_, _++_}
+use mathlib.Core.List.{List, [], _∷_, _++_, map}
 use mathlib.Core.Path.{_≡_}
 use Rattle.model.specs.declared.state.Exchange.{Exchange}
 use Rattle.model.specs.declared.answer.Answer.{Answer}
@@ -65,3 +65,12 @@ LeftByRun x = (ss : List Submission) × (stateAfter modelEngine freshExchange ss
 
 abbrev pub ReachableIsRun : Type 0
 ReachableIsRun = (x : Exchange) → (Reachable x → LeftByRun x) × (LeftByRun x → Reachable x)
+
+-- Lists of orders spelled out: requests alone that tell the same and leave the same state, a request for each order of an accepted list
+pub record SpelledOut (x : Exchange) (told : List Event) (left : Exchange) : Type 0 where
+  pub requests : List Request
+  pub tell : eventsOf modelEngine x (map single requests) ≡ told
+  pub leave : stateAfter modelEngine x (map single requests) ≡ left
+
+abbrev pub RunsSpelledOut : Type 0
+RunsSpelledOut = (x : Exchange) (ss : List Submission) → SpelledOut x (eventsOf modelEngine x ss) (stateAfter modelEngine x ss)
