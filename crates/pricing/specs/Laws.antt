@@ -1,6 +1,7 @@
 -- What is proved of prices, trades and shares, each once for all sides and tokens (the proofs stand in proofs/).
 use Prim.Native.Nat.{ℕ, _+_, _-_, _*_, _≤_, _<_}
 use mathlib.Core.Path.{_≡_}
+use mathlib.Core.Logic.{_⊎_}
 use mathlib.Core.Bool.{false}
 use mathlib.Core.List.{List}
 use lib.ListN.{length}
@@ -9,12 +10,33 @@ use Rattle.units.specs.Sums.{sumOver}
 use Rattle.pricing.specs.declared.Side.{Side}
 use Rattle.pricing.specs.declared.Side.the-variants.{Buy, Sell}
 use Rattle.pricing.specs.declared.Trade.{Trade}
-use Rattle.pricing.specs.Prices.{highBound, lowBound, offLimit, matchBase, matchQuote, trade, tradeWithin, auctionPrice, sharePaid, shareGot, fetches}
+use Rattle.pricing.specs.Prices.{highBound, lowBound, offLimit, matchBase, matchQuote, trade, tradeWithin, linearPrice, auctionPrice, sharePaid, shareGot, fetches}
 
 -- from a to b as a side's price moves: the buys' rises, the sells' falls
 abbrev pub Moves : Side → ℕ → ℕ → Type 0
 Moves Buy a b = a ≤ b
 Moves Sell a b = b ≤ a
+
+-- p is s rounded up to a multiple of 100, but never above hi: the least number from s to hi that is a multiple or hi itself
+pub record SteppedUp (hi s p : ℕ) : Type 0 where
+  pub reaches : s ≤ p
+  pub close : p < s + 100
+  pub within : p ≤ hi
+  pub multiple : ((m : ℕ) × (p ≡ m * 100)) ⊎ (p ≡ hi)
+  pub least : (m : ℕ) → s ≤ m * 100 → p ≤ m * 100
+
+-- p is s rounded down to a multiple of 100, but never below lo
+pub record SteppedDown (lo s p : ℕ) : Type 0 where
+  pub reaches : p ≤ s
+  pub close : s < p + 100
+  pub within : lo ≤ p
+  pub multiple : ((m : ℕ) × (p ≡ m * 100)) ⊎ (p ≡ lo)
+  pub greatest : (m : ℕ) → m * 100 ≤ s → m * 100 ≤ p
+
+-- p is a side's price s on the hundred
+abbrev pub Stepped : Side → ℕ → ℕ → ℕ → ℕ → Type 0
+Stepped Buy hi lo s p = SteppedDown lo s p
+Stepped Sell hi lo s p = SteppedUp hi s p
 
 -- a trade takes no more than either side has, and its price lies within the bounds
 pub record TradeFits (q s lo hi : ℕ) (t : Trade) : Type 0 where
@@ -54,6 +76,20 @@ BoundsEven = (r w : ℕ) → w ≤ million → highBound r w + lowBound r w ≡ 
 abbrev pub PricesWithin : Type 0
 PricesWithin =
     (x : Side) (hi lo k len : ℕ) → lo ≤ hi → 0 < len → k ≤ len → (lo ≤ auctionPrice x hi lo k len) × (auctionPrice x hi lo k len ≤ hi)
+
+-- L6: it is document 01's price on the hundred, whatever the numbers, and no other price is
+abbrev pub PricesStepped : Type 0
+PricesStepped =
+    (x : Side) (hi lo k len : ℕ)
+    → let s : ℕ = linearPrice x hi lo k len in
+    Stepped x hi lo s (auctionPrice x hi lo k len) × ((p : ℕ) → Stepped x hi lo s p → p ≡ auctionPrice x hi lo k len)
+
+-- "At k = L the side 1 price may now stand above lo, and the side 0 price below hi, by less than 100"
+abbrev pub PricesEnd : Type 0
+PricesEnd =
+    (hi lo len : ℕ) → lo ≤ hi → 0 < len
+    → (lo ≤ auctionPrice Sell hi lo len len) × (auctionPrice Sell hi lo len len < lo + 100)
+    × (auctionPrice Buy hi lo len len ≤ hi) × (hi < auctionPrice Buy hi lo len len + 100)
 
 -- what a match trades, r lying between the bounds, fits both sides and both bounds
 abbrev pub TradesFit : Type 0

@@ -1,6 +1,6 @@
--- The numbers of document 01's calls open, match, bid and claim, and of document 02's L4 on match. A price counts millionths of a quote unit per base unit.
+-- The numbers of document 01's calls open, match, bid and claim, and of document 02's L4 on match and L6 on bid. A price counts millionths of a quote unit per base unit.
 use mathlib.Core.Bool.{Bool, cond, _&&_}
-use Prim.Native.Nat.{ℕ, _+_, _-_, _*_, min}
+use Prim.Native.Nat.{ℕ, _+_, _-_, _*_, min, max}
 use lib.Dec.{leb, ltb}
 use Rattle.units.specs.Counts.{amount, million}
 use Rattle.units.specs.Rounding.{down, up}
@@ -59,9 +59,27 @@ tradeWithin q s r hi lo =
 
 -- "Side 1 takes base left by the sells: price hi - (hi - lo)×k/L, the quotient rounded down"; "Side 0 takes quote left by the buys:
 -- price lo + (hi - lo)×k/L, again rounded down"
+abbrev pub linearPrice : Side → ℕ → ℕ → ℕ → ℕ → ℕ
+linearPrice Buy hi lo k len = lo + down ((hi - lo) * k) len
+linearPrice Sell hi lo k len = hi - down ((hi - lo) * k) len
+
+-- L6: "in steps of 100 millionths", the tick size
+abbrev pub priceStep : ℕ
+priceStep = 100
+
+-- "The price for side 1 is now rounded up to a multiple of 100, but never above hi."; "Where such a rounding would pass hi .. hi .. itself
+-- is the price."
+abbrev pub steppedUp : ℕ → ℕ → ℕ
+steppedUp hi p = min hi (up p priceStep * priceStep)
+
+-- "The price for side 0 is rounded down to one, but never below lo."; ".. lo itself is the price."
+abbrev pub steppedDown : ℕ → ℕ → ℕ
+steppedDown lo p = max lo (down p priceStep * priceStep)
+
+-- "the stepped price", from which "Every cost, bound test and lot test works"
 unfoldable pub auctionPrice : Side → ℕ → ℕ → ℕ → ℕ → ℕ
-auctionPrice Buy hi lo k len = lo + down ((hi - lo) * k) len
-auctionPrice Sell hi lo k len = hi - down ((hi - lo) * k) len
+auctionPrice Buy hi lo k len = steppedDown lo (linearPrice Buy hi lo k len)
+auctionPrice Sell hi lo k len = steppedUp hi (linearPrice Sell hi lo k len)
 
 -- side 1: "the maker pays n×price/1,000,000 rounded up"; side 0: "gets n×price/1,000,000 rounded down"
 unfoldable pub quoteFor : Side → ℕ → ℕ → ℕ

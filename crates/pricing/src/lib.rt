@@ -10,18 +10,25 @@ ghost use Rattle.pricing.specs.Prices.{
   lowBound,
   lowerTrade,
   tradeWithin,
+  steppedUp,
+  steppedDown,
   auctionPrice,
   quoteFor,
   shareOf,
 };
 use units::Amount;
 use units::Price;
+use units::div_down;
+use units::div_up;
 use units::part_down;
 use units::part_up;
 use units::product;
 
 // A price counts millionths.
 const MILLION: u32 = 1_000_000;
+
+// Auction prices stand on multiples of this.
+const PRICE_STEP: u64 = 100;
 
 // The side of an order: a buy (0) offers quote, a sell (1) offers base.
 pub enum Side {
@@ -171,15 +178,37 @@ pub fn trade_within(q: Amount, s: Amount, reference: Price, hi: Price, lo: Price
     Trade { base, quote }
 }
 
+// A price rounded up to a step, but never above hi.
+fn stepped_up(p: Price, hi: Price) -> Price
+    ensures { λ r. ⌜ r .0 ≡ steppedUp (hi .0) (p .0) ⌝ }
+{
+    let step = div_up(p.0 as u64, PRICE_STEP) * PRICE_STEP;
+    if (hi.0 as u64) < step {
+        return hi;
+    }
+    Price(step as u32)
+}
+
+// A price rounded down to a step, but never below lo.
+fn stepped_down(p: Price, lo: Price) -> Price
+    ensures { λ r. ⌜ r .0 ≡ steppedDown (lo .0) (p .0) ⌝ }
+{
+    let step = div_down(p.0 as u64, PRICE_STEP) * PRICE_STEP;
+    if step < (lo.0 as u64) {
+        return lo;
+    }
+    Price(step as u32)
+}
+
 // The price k blocks into an auction of length blocks, of what a side's orders left.
 pub fn auction_price(side: Side, hi: Price, lo: Price, k: u32, length: u32) -> Price
     requires { ⌜ (lo .0 ≤ hi .0) × (k ≤ length) × (1 ≤ length) ⌝ }
     ensures { λ p. ⌜ p ≡ price (auctionPrice side (hi .0) (lo .0) k length) ⌝ }
 {
-    let step = part_down(hi.0 - lo.0, k, length) as u32;
+    let gone = part_down(hi.0 - lo.0, k, length) as u32;
     match side {
-        Side::Buy => Price(lo.0 + step),
-        Side::Sell => Price(hi.0 - step),
+        Side::Buy => stepped_down(Price(lo.0 + gone), lo),
+        Side::Sell => stepped_up(Price(hi.0 - gone), hi),
     }
 }
 

@@ -1,7 +1,9 @@
 -- `pricing::auction_price` meets its contract.
 use borrow.Author.Needs.{needs}
 use native.Mathlib.Omega.{arith}
-use Prim.Native.Nat.{_-_, _≤_}
+use mathlib.Core.Path.{ap, _∙_}
+use Prim.Native.Nat.{ℕ, _-_, _≤_}
+use Rattle.units.specs.Counts.{price}
 use Rattle.units.proofs.Rounding.{part-down-le}
 use Rattle.pricing.specs.Prices.{auctionPrice}
 use Rattle.pricing.proofs.auction_price.Statement.{statement}
@@ -13,35 +15,41 @@ sub-part-down c = search needs
 part-down-requires : tie.Need-part-down-requires
 part-down-requires c κs = search needs
 
--- the step is no more than the distance of the bounds
-step : (c : tie.After-part-down) → let a = c .before .before .before .args in c .part-down .result ≤ a .hi .0 - a .lo .0
-step c =
+-- the distance gone is no more than that of the bounds
+gone : (c : tie.After-part-down) → let a = c .before .before .before .args in c .part-down .result ≤ a .hi .0 - a .lo .0
+gone c =
     let a = c .before .before .before .args in
     let pre = c .before .before .before .pre in
     rw (c .part-down .ensures) (part-down-le (a .hi .0 - a .lo .0) (a .k) (a .length) (pre .2) (pre .1))
 
-cast-step : tie.Need-cast-step
-cast-step c = omega (arith, step c)
+cast-gone : tie.Need-cast-gone
+cast-gone c = omega (arith, gone c)
 
 enum-told : tie.Need-enum-told
 enum-told c = search needs
 
 add-t10 : tie.Need-add-t10
-add-t10 c = omega (arith, step (c .before .before .before))
+add-t10 c = omega (arith, gone (c .before .before .before))
+
+stepped-down-requires : tie.Need-stepped-down-requires
+stepped-down-requires c κs = search needs
 
 enum-told-2 : tie.Need-enum-told-2
 enum-told-2 c = search needs
 
-sub-t11 : tie.Need-sub-t11
-sub-t11 c = omega (arith, step (c .before .before .before))
+sub-t12 : tie.Need-sub-t12
+sub-t12 c = omega (arith, gone (c .before .before .before))
+
+stepped-up-requires : tie.Need-stepped-up-requires
+stepped-up-requires c κs = search needs
 
 returns : tie.Need-returns
 unfolding auctionPrice
-returns c = rw (c .before .enum-told .given .1, c .before .before .before .part-down .ensures)
+returns c = rw (c .before .before .enum-told .given .1) (ap (λ (n : ℕ). price n) (c .stepped-down .ensures ∙ rw (c .before .before .before .before .part-down .ensures)))
 
 returns-2 : tie.Need-returns-2
 unfolding auctionPrice
-returns-2 c = rw (c .before .enum-told2 .given .1, c .before .before .before .part-down .ensures)
+returns-2 c = rw (c .before .before .enum-told2 .given .1) (ap (λ (n : ℕ). price n) (c .stepped-up .ensures ∙ rw (c .before .before .before .before .part-down .ensures)))
 
 pub auction-price-spec : {M : Type 1} → statement M
 auction-price-spec =
@@ -49,10 +57,12 @@ auction-price-spec =
     (tie.spec
     sub-part-down
     part-down-requires
-    cast-step
+    cast-gone
     enum-told
     add-t10
+    stepped-down-requires
     enum-told-2
-    sub-t11
+    sub-t12
+    stepped-up-requires
     returns
     returns-2)
