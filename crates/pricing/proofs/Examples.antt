@@ -16,7 +16,7 @@ use Rattle.pricing.specs.Prices.{
   shareOf,
   fetches,
 }
-use Rattle.pricing.specs.Examples.{openCases, limitCases, matchCases, tradeCases, bidCases, claimCases}
+use Rattle.pricing.specs.Examples.{openCases, limitCases, matchCases, tradeCases, priceCases, bidCases, claimCases}
 
 pub opens : given openCases ≡ byHand openCases
 unfolding openCases highBound lowBound down up
@@ -33,6 +33,10 @@ matches = refl
 pub trades : given tradeCases ≡ byHand tradeCases
 unfolding tradeCases tradeWithin highBound lowBound matchBase matchQuote lowerQuote down up
 trades = refl
+
+pub prices : given priceCases ≡ byHand priceCases
+unfolding priceCases auctionPrice down up
+prices = refl
 
 pub bids : given bidCases ≡ byHand bidCases
 unfolding bidCases auctionPrice quoteFor down up

@@ -167,8 +167,7 @@ pub price-ends : PricesEnd
 price-ends hi lo len b h =
     let e = whole-down (hi - lo) len h in
     let sell = on-step Sell hi lo len len in
-    let buy = on-step Buy hi lo len len in
-    (
+    let buy = on-step Buy hi lo len len in (
       omega (arith, e, sell .reaches),
       omega (arith, e, sell .close),
       omega (arith, e, buy .reaches),

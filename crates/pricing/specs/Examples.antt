@@ -1,4 +1,4 @@
--- Cases of the prices, trades and shares of document 01, and of document 02's L4, worked by hand.
+-- Cases of the prices, trades and shares of document 01, and of document 02's L4 and L6, worked by hand.
 use Prim.Native.Nat.{ℕ}
 use mathlib.Core.Bool.{Bool, true, false}
 use mathlib.Core.List.{List, [], _∷_, map}
@@ -15,6 +15,9 @@ use Rattle.pricing.specs.Prices.{
   matchQuote,
   lowerQuote,
   tradeWithin,
+  linearPrice,
+  steppedUp,
+  steppedDown,
   auctionPrice,
   quoteFor,
   sharePaid,
@@ -131,20 +134,73 @@ tradeCases =
 
 -- ---- 8 bid
 
--- the prices at blocks 0 to 3 of 3, and the quotes for n base at blocks 0, 5 and 10 of 10 between 2.75 and 2.25
+-- at blocks 0 to 3 of 3 document 01's prices, and the stepped ones
+abbrev pub linears : Side → ℕ → ℕ → List ℕ
+linears x hi lo = map (λ k. linearPrice x hi lo k 3) (0 ∷ 1 ∷ 2 ∷ 3 ∷ [])
+
 abbrev pub prices : Side → ℕ → ℕ → List ℕ
 prices x hi lo = map (λ k. auctionPrice x hi lo k 3) (0 ∷ 1 ∷ 2 ∷ 3 ∷ [])
 
+-- the price half way, at block 1 of 2
+abbrev pub halfWay : Side → ℕ → ℕ → ℕ
+halfWay x hi lo = auctionPrice x hi lo 1 2
+
+unfoldable pub priceCases : List (List ℕ × List ℕ)
+priceCases =
+    -- hi - lo 7 in three: 0, 2.3.., 4.6.. and 7, rounded down
+    (linears Sell 100 93, 100 ∷ 98 ∷ 96 ∷ 93 ∷ [])
+    ∷ (linears Buy 100 93, 93 ∷ 95 ∷ 97 ∷ 100 ∷ [])
+    -- "rounded up to a multiple of 100, but never above hi", here 1,501; "rounded down to one, but never below lo", here 501
+    ∷ (
+      map (steppedUp 1501) (0 ∷ 1 ∷ 99 ∷ 100 ∷ 101 ∷ 1400 ∷ 1401 ∷ 1500 ∷ 1501 ∷ []),
+      0 ∷ 100 ∷ 100 ∷ 100 ∷ 200 ∷ 1400 ∷ 1500 ∷ 1500 ∷ 1501 ∷ [],
+    )
+    ∷ (
+      map (steppedDown 501) (501 ∷ 599 ∷ 600 ∷ 601 ∷ 699 ∷ 700 ∷ 1499 ∷ 1500 ∷ 1501 ∷ []),
+      501 ∷ 501 ∷ 600 ∷ 600 ∷ 600 ∷ 700 ∷ 1400 ∷ 1500 ∷ 1500 ∷ [],
+    )
+    -- bounds off the hundred: side 1 ends 99 above lo, side 0 1 below hi
+    ∷ (linears Sell 1501 501, 1501 ∷ 1168 ∷ 835 ∷ 501 ∷ [])
+    ∷ (prices Sell 1501 501, 1501 ∷ 1200 ∷ 900 ∷ 600 ∷ [])
+    ∷ (linears Buy 1501 501, 501 ∷ 834 ∷ 1167 ∷ 1501 ∷ [])
+    ∷ (prices Buy 1501 501, 501 ∷ 800 ∷ 1100 ∷ 1500 ∷ [])
+    -- the other way round: 1 above lo, 99 below hi
+    ∷ (prices Sell 1599 599, 1599 ∷ 1300 ∷ 1000 ∷ 600 ∷ [])
+    ∷ (prices Buy 1599 599, 599 ∷ 900 ∷ 1200 ∷ 1500 ∷ [])
+    -- bounds on it: at both ends the bounds themselves
+    ∷ (prices Sell 1500 500, 1500 ∷ 1200 ∷ 900 ∷ 500 ∷ [])
+    ∷ (prices Buy 1500 500, 500 ∷ 800 ∷ 1100 ∷ 1500 ∷ [])
+    -- half way: 201, 200 and 199 on side 1, stepped by 99, by nothing and by 1; the same three on side 0, by 1, by nothing and by 99
+    ∷ (halfWay Sell 301 100 ∷ halfWay Sell 300 100 ∷ halfWay Sell 299 99 ∷ [], 300 ∷ 200 ∷ 200 ∷ [])
+    ∷ (halfWay Buy 301 101 ∷ halfWay Buy 300 100 ∷ halfWay Buy 299 99 ∷ [], 200 ∷ 200 ∷ 100 ∷ [])
+    -- "Where such a rounding would pass hi or lo, hi or lo itself is the price": 250 up to 299, 300, and 300 below 301; down to 201, 200, and
+    -- 200 above 199
+    ∷ (halfWay Sell 299 201 ∷ halfWay Sell 300 200 ∷ halfWay Sell 301 199 ∷ [], 299 ∷ 300 ∷ 300 ∷ [])
+    ∷ (halfWay Buy 299 201 ∷ halfWay Buy 300 200 ∷ halfWay Buy 301 199 ∷ [], 201 ∷ 200 ∷ 200 ∷ [])
+    -- no multiple of 100 from lo to hi: the auction stands still. hi 4 and lo 2 are those of r 3 with slack 500,000
+    ∷ (prices Sell 4 2, 4 ∷ 4 ∷ 4 ∷ 4 ∷ [])
+    ∷ (prices Buy 4 2, 2 ∷ 2 ∷ 2 ∷ 2 ∷ [])
+    ∷ (prices Sell 199 101, 199 ∷ 199 ∷ 199 ∷ 199 ∷ [])
+    ∷ (prices Buy 199 101, 101 ∷ 101 ∷ 101 ∷ 101 ∷ [])
+    -- one at a bound alone
+    ∷ (prices Sell 100 93, 100 ∷ 100 ∷ 100 ∷ 100 ∷ [])
+    ∷ (prices Buy 100 93, 93 ∷ 93 ∷ 93 ∷ 100 ∷ [])
+    -- no slack
+    ∷ (auctionPrice Sell 2500050 2500050 7 9 ∷ auctionPrice Buy 2500050 2500050 7 9 ∷ [], 2500050 ∷ 2500050 ∷ [])
+    -- the largest bounds, 1,166,666,667 and 833,333,333 at block 1; and a step that passes 32 bits
+    ∷ (prices Sell 1500000000 500000000, 1500000000 ∷ 1166666700 ∷ 833333400 ∷ 500000000 ∷ [])
+    ∷ (prices Buy 1500000000 500000000, 500000000 ∷ 833333300 ∷ 1166666600 ∷ 1500000000 ∷ [])
+    ∷ (halfWay Sell 4294967295 4294967201 ∷ halfWay Buy 4294967295 4294967201 ∷ [], 4294967295 ∷ 4294967201 ∷ [])
+    ∷ []
+
+-- the quotes for n base at blocks 0, 5 and 10 of 10 between 2.75 and 2.25
 abbrev pub quotes : Side → ℕ → List ℕ
 quotes x n = map (λ k. quoteFor x n (auctionPrice x 2750000 2250000 k 10)) (0 ∷ 5 ∷ 10 ∷ [])
 
 unfoldable pub bidCases : List (List ℕ × List ℕ)
 bidCases =
-    -- hi - lo 7 in three: 0, 2.3.., 4.6.. and 7, rounded down
-    (prices Sell 100 93, 100 ∷ 98 ∷ 96 ∷ 93 ∷ [])
-    ∷ (prices Buy 100 93, 93 ∷ 95 ∷ 97 ∷ 100 ∷ [])
     -- the day's bid at k 5 costs 150; "at k 0 for 60 base costs 165, at k 10 costs 135"; the buys' prices the other way
-    ∷ (quotes Sell 60, 165 ∷ 150 ∷ 135 ∷ [])
+    (quotes Sell 60, 165 ∷ 150 ∷ 135 ∷ [])
     ∷ (quotes Buy 60, 135 ∷ 150 ∷ 165 ∷ [])
     -- 90.75, 82.5 and 74.25: side 1 pays rounded up, side 0 gets rounded down
     ∷ (quotes Sell 33, 91 ∷ 83 ∷ 75 ∷ [])

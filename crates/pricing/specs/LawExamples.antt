@@ -5,8 +5,8 @@ use mathlib.Core.List.{List, [], _∷_}
 use Rattle.pricing.specs.declared.Side.{Side}
 use Rattle.pricing.specs.declared.Side.the-variants.{Buy, Sell}
 use Rattle.pricing.specs.declared.Trade.{Trade}
-use Rattle.pricing.specs.Prices.{highBound, lowBound, matchBase, matchQuote, trade, tradeWithin, auctionPrice, sharePaid, shareGot, fetches}
-use Rattle.pricing.specs.Laws.{Moves, TradeFits, Near, ShareLaw, Rate, BoundsEven, PricesWithin, TradesFit, UpperKept, NoSlack, DropsOnly, QuotesNear, SharesHold, LimitsHold}
+use Rattle.pricing.specs.Prices.{highBound, lowBound, matchBase, matchQuote, trade, tradeWithin, linearPrice, auctionPrice, sharePaid, shareGot, fetches}
+use Rattle.pricing.specs.Laws.{Moves, SteppedUp, SteppedDown, TradeFits, Near, ShareLaw, Rate, BoundsEven, PricesWithin, PricesStepped, PricesEnd, TradesFit, UpperKept, NoSlack, DropsOnly, QuotesNear, SharesHold, LimitsHold}
 
 -- "Offers 100, 100, 101 (T 301)"
 abbrev pub threeOffers : List ℕ
@@ -40,6 +40,33 @@ pub record LawsUsed : Type 0 where
   pub prices-last : PricesWithin → (x : Side) (len : ℕ) → 0 < len → (93 ≤ auctionPrice x 100 93 len len) × (auctionPrice x 100 93 len len ≤ 100)
   pub prices-one : PricesWithin → (x : Side) (hi lo : ℕ) → lo ≤ hi → (lo ≤ auctionPrice x hi lo 1 1) × (auctionPrice x hi lo 1 1 ≤ hi)
   pub prices-same : PricesWithin → (x : Side) (k : ℕ) → k ≤ 64 → (5 ≤ auctionPrice x 5 5 k 64) × (auctionPrice x 5 5 k 64 ≤ 5)
+  -- a price on the hundred, with hi 1,501 on side 1 and lo 501 on side 0
+  pub up-reaches : (s p : ℕ) → SteppedUp 1501 s p → s ≤ p
+  pub up-close : (s p : ℕ) → SteppedUp 1501 s p → p < s + 100
+  pub up-within : (s p : ℕ) → SteppedUp 1501 s p → p ≤ 1501
+  pub up-least : (s p : ℕ) → SteppedUp 1501 s p → s ≤ 1200 → p ≤ 1200
+  pub down-reaches : (s p : ℕ) → SteppedDown 501 s p → p ≤ s
+  pub down-close : (s p : ℕ) → SteppedDown 501 s p → s < p + 100
+  pub down-within : (s p : ℕ) → SteppedDown 501 s p → 501 ≤ p
+  pub down-greatest : (s p : ℕ) → SteppedDown 501 s p → 800 ≤ s → 800 ≤ p
+  -- document 01's price stays where it is a multiple of 100
+  pub sells-kept :
+      PricesStepped → (hi lo k len m : ℕ) → linearPrice Sell hi lo k len ≡ m * 100 → auctionPrice Sell hi lo k len ≡ linearPrice Sell hi lo k len
+  pub buys-kept :
+      PricesStepped → (hi lo k len m : ℕ) → linearPrice Buy hi lo k len ≡ m * 100 → auctionPrice Buy hi lo k len ≡ linearPrice Buy hi lo k len
+  -- no multiple of 100 from 2 to 4: 4 and 2 at every block of any auction
+  pub stands-still :
+      PricesStepped → PricesWithin → (k len : ℕ) → 0 < len → k ≤ len → (auctionPrice Sell 4 2 k len ≡ 4) × (auctionPrice Buy 4 2 k len ≡ 2)
+  -- no other price: 1,168 and 834 are worked by hand, the steps by what a step is
+  pub sell-alone : PricesStepped → auctionPrice Sell 1501 501 1 3 ≡ 1200
+  pub buy-alone : PricesStepped → auctionPrice Buy 1501 501 1 3 ≡ 800
+  -- the end of any auction between 501 and 1,501, of one block between any bounds, and where the bounds are the same
+  pub ends-any :
+      PricesEnd → (len : ℕ) → 0 < len
+      → (501 ≤ auctionPrice Sell 1501 501 len len) × (auctionPrice Sell 1501 501 len len < 601)
+      × (auctionPrice Buy 1501 501 len len ≤ 1501) × (1401 < auctionPrice Buy 1501 501 len len)
+  pub ends-one : PricesEnd → (hi lo : ℕ) → lo ≤ hi → auctionPrice Sell hi lo 1 1 < lo + 100
+  pub ends-same : PricesEnd → (len : ℕ) → 0 < len → (5 ≤ auctionPrice Sell 5 5 len len) × (auctionPrice Buy 5 5 len len ≤ 5)
   -- what any two sides trade where lo is r, and where hi is r
   pub trades-at-lo : TradesFit → (q s hi : ℕ) → 2500000 ≤ hi → TradeFits q s 2500000 hi (tradeWithin q s 2500000 hi 2500000)
   pub trades-at-hi : TradesFit → (q s lo : ℕ) → lo ≤ 2500000 → TradeFits q s lo 2500000 (tradeWithin q s 2500000 2500000 lo)
@@ -84,6 +111,17 @@ pub record LawsMet : Type 0 where
   -- 11 paid for 4 base at 2.75, 9 got for 4 base at 2.25
   pub buys-rate : Rate Buy 2750000 2250000 11 4
   pub sells-rate : Rate Sell 2750000 2250000 4 9
+  -- stepped by 99, by 1, by nothing, and to hi or lo: where a multiple is further off, and where the price is there
+  pub up-most : SteppedUp 1501 1101 1200
+  pub up-one : SteppedUp 1501 1199 1200
+  pub up-none : SteppedUp 1501 1200 1200
+  pub up-capped : SteppedUp 1199 1101 1199
+  pub up-bound : SteppedUp 1501 1501 1501
+  pub down-most : SteppedDown 501 899 800
+  pub down-one : SteppedDown 501 801 800
+  pub down-none : SteppedDown 501 800 800
+  pub down-floored : SteppedDown 801 899 801
+  pub down-bound : SteppedDown 501 501 501
   -- 4 base for 10 quote: all of both sides, at hi and at lo
   pub trade-fits : TradeFits 10 4 2500000 2500000 (trade 4 10)
   -- 3 and 2 for one base, a millionth nearer than a unit above and half a unit below
@@ -102,6 +140,21 @@ pub record LawsRefused : Type 0 where
   pub sells-paid : Rate Sell 2750000 2250000 5 9 → ⊥
   pub sells-got : Rate Sell 2750000 2250000 4 8 → ⊥
   pub sells-low : Rate Sell 2750000 2250001 4 9 → ⊥
+  -- on the hundred: the wrong way, a step too far, past the bound
+  pub up-short : SteppedUp 1501 1201 1200 → ⊥
+  pub up-far : SteppedUp 1501 1100 1200 → ⊥
+  pub up-over : SteppedUp 1199 1168 1200 → ⊥
+  pub down-short : SteppedDown 501 799 800 → ⊥
+  pub down-far : SteppedDown 501 900 800 → ⊥
+  pub down-over : SteppedDown 801 834 800 → ⊥
+  -- a step of 10; the bound itself, with a multiple before it
+  pub up-ten : SteppedUp 1501 1168 1170 → ⊥
+  pub down-ten : SteppedDown 501 834 830 → ⊥
+  pub up-past : SteppedUp 1250 1168 1250 → ⊥
+  pub down-past : SteppedDown 750 834 750 → ⊥
+  -- an end by less than 99: 501 ends at 600, and 1,599 at 1,500
+  pub sells-end : auctionPrice Sell 1501 501 3 3 < 600 → ⊥
+  pub buys-end : 1599 < auctionPrice Buy 1599 599 3 3 + 99 → ⊥
   -- 4 base for 10 quote: with 3 base, with 9 quote, with bounds just under the price, and just above it
   pub base-over : TradeFits 10 3 2500000 2500000 (trade 4 10) → ⊥
   pub quote-over : TradeFits 9 4 2500000 2500000 (trade 4 10) → ⊥
