@@ -698,7 +698,7 @@ lateMatches =
     ∷ accepted (Deposit 2 0 6000001) 6000001 0
     ∷ accepted (Deposit 15 0 3999999) 3999999 0
     ∷ accepted (Deposit 3 3 1000000) 1000000 0
-    ∷ accepted (Deposit 4 0 1030) 1030 0
+    ∷ accepted (Deposit 4 0 1170) 1170 0
     ∷ accepted (Deposit 4 3 3000001) 3000001 0
     ∷ accepted (Order 5 0 1 0 360 900) 900 0
     ∷ accepted (Order 10 1 1 1 240 7000003) 7000003 0
@@ -725,57 +725,166 @@ lateMatches =
     -- k 0: price 2,250,000
     ∷ refused (Bid 3 4 25 0 1000000 2250001) 18
     ∷ accepted (Bid 3 4 25 0 1000000 2250000) 1000000 2250000
-    -- k 3: 120 × 3 / 7 is 51.4, the price 309
-    ∷ refused (Bid 1 4 26 1 1000000 308) 18
-    ∷ accepted (Bid 1 4 26 1 1000000 309) 1000000 309
-    -- k 7 = L: price 240; 1,500,001 × 0.00024 is 360.00024, up 361
-    ∷ refused (Bid 1 4 30 1 1500001 360) 18
-    ∷ accepted (Bid 1 4 30 1 1500001 361) 1500001 361
-    -- 3,499,999 base left: k 7 is 13, k 8 is 16 and settles
+    -- k 3: 120 × 3 / 7 is 51.4; 309, up to 400, which passes hi: the price 360
+    ∷ refused (Bid 1 4 26 1 1000000 359) 18
+    ∷ accepted (Bid 1 4 26 1 1000000 360) 1000000 360
+    -- k 7 = L: 240, up to 300; 1,499,999 × 0.0003 is 449.9997, up 450
+    ∷ refused (Bid 1 4 30 1 1499999 449) 18
+    ∷ accepted (Bid 1 4 30 1 1499999 450) 1499999 450
+    -- 3,500,001 base left: k 7 is 13, k 8 is 16 and settles
     ∷ refused (Settle 1 30) 13
     ∷ refused (Bid 1 4 31 1 1 1) 16
-    ∷ accepted (Settle 1 31) 900 6500001
-    -- k 13: 500,000 × 13 / 37 is 175,675.7, the price 2,425,675
-    ∷ refused (Bid 3 4 38 0 1000000 2425676) 18
-    ∷ accepted (Bid 3 4 38 0 1000000 2425675) 1000000 2425675
+    ∷ accepted (Settle 1 31) 900 6499999
+    -- k 13: 500,000 × 13 / 37 is 175,675.7; 2,425,675, down to 2,425,600
+    ∷ refused (Bid 3 4 38 0 1000000 2425601) 18
+    ∷ accepted (Bid 3 4 38 0 1000000 2425600) 1000000 2425600
     -- k 37 = L: 1,000,001 × 2.75 is 2,750,002.75, down
     ∷ refused (Bid 3 4 62 0 1000001 2750003) 18
     ∷ accepted (Bid 3 4 62 0 1000001 2750002) 1000001 2750002
-    -- 74,323 quote left: k 37 is 13, k 38 is 16 and settles
+    -- 74,398 quote left: k 37 is 13, k 38 is 16 and settles
     ∷ refused (Settle 3 62) 13
     ∷ refused (Bid 3 4 63 0 1 0) 16
-    ∷ accepted (Settle 3 63) 9925677 1000000
-    -- the maker paid 360 + 309 + 361 and took 2,250,000 + 2,425,675 + 2,750,002
-    ∷ balance-is 4 0 7425677
-    ∷ balance-is 4 1 3500001
+    ∷ accepted (Settle 3 63) 9925602 1000000
+    -- the maker paid 360 + 360 + 450 and took 2,250,000 + 2,425,600 + 2,750,002
+    ∷ balance-is 4 0 7425602
+    ∷ balance-is 4 1 3499999
     ∷ balance-is 4 3 0
-    -- market 1's sells: T 10,000,000, P 6,500,001, G 900 + 1030. 4,550,002.7 and 1351.0006; 1,949,998.3 and 578.9994
-    ∷ accepted (Claim 10) 4550003 1351
+    -- market 1's sells: T 10,000,000, P 6,499,999, G 900 + 1170. 4,550,001.2 and 1449.0006; 1,949,997.8 and 620.9994
+    ∷ accepted (Claim 10) 4550002 1449
     ∷ accepted (Claim 5) 900 3000000
-    ∷ accepted (Claim 63) 1949999 578
-    -- 1930 - 1929 quote; 6,500,002 paid where 6,500,001 were sold
+    ∷ accepted (Claim 63) 1949998 620
+    -- 2070 - 2069 quote; 6,500,000 paid where 6,499,999 were sold
     ∷ residue-is 0 1
     ∷ residue-is 1 1
     ∷ closed-is 1 true
-    -- market 3's buys: T 10,000,000, P 9,925,677, G 4,000,001. 3,970,269.8 and 1,599,999.9999999; 5,955,407.2 and 2,400,001.0000001
-    ∷ accepted (Claim 62) 3970270 1599999
+    -- market 3's buys: T 10,000,000, P 9,925,602, G 4,000,001. 3,970,239.8 and 1,599,999.9999999; 5,955,362.2 and 2,400,001.0000001
+    ∷ accepted (Claim 62) 3970240 1599999
     ∷ accepted (Claim 0) 1000000 2500000
-    ∷ accepted (Claim 20) 5955408 2400001
+    ∷ accepted (Claim 20) 5955363 2400001
     ∷ residue-is 0 2
     ∷ residue-is 2 0
     ∷ residue-is 3 1
     ∷ closed-is 3 true
-    ∷ accepted (Cancel 10 1) 2450000 0
-    ∷ accepted (Cancel 63 15) 1049998 0
-    ∷ accepted (Cancel 62 15) 29729 0
-    ∷ accepted (Cancel 20 2) 44593 0
-    -- 578 + 29,729 quote
-    ∷ balance-is 15 0 30307
-    ∷ balance-is 15 1 1049998
+    ∷ accepted (Cancel 10 1) 2450001 0
+    ∷ accepted (Cancel 63 15) 1049999 0
+    ∷ accepted (Cancel 62 15) 29759 0
+    ∷ accepted (Cancel 20 2) 44638 0
+    -- 620 + 29,759 quote
+    ∷ balance-is 15 0 30379
+    ∷ balance-is 15 1 1049999
     ∷ balance-is 15 3 1599999
-    ∷ balance-is 1 0 1351
+    ∷ balance-is 1 0 1449
     ∷ balance-is 2 3 2400001
     ∷ balance-is 3 0 2500000
+    ∷ []
+
+-- Prices on the hundred: r 1,001, slack 500,000, L 3, both auctions from block 4. In market 1 makers take base, at 1501, 1168 up to 1200, 835 up
+-- to 900 and 501 up to 600; in market 2 quote, at 501, 834 down to 800, 1167 down to 1100 and 1501 down to 1500.
+unfoldable pub pricesStepped : List Line
+pricesStepped =
+    accepted (Deposit 1 1 2000000) 2000000 0
+    ∷ accepted (Deposit 2 0 5000) 5000 0
+    ∷ accepted (Deposit 3 0 1772) 1772 0
+    ∷ accepted (Deposit 3 2 4732667) 4732667 0
+    ∷ accepted (Deposit 4 0 119) 119 0
+    ∷ accepted (Order 0 1 1 1 501 1500000) 1500000 0
+    ∷ accepted (Order 1 1 1 1 501 500000) 500000 0
+    ∷ accepted (Order 2 2 2 0 1501 3000) 3000 0
+    ∷ accepted (Order 3 2 2 0 1501 2000) 2000 0
+    -- 1501.5 down, 500.5 up: bounds are not stepped
+    ∷ accepted (Open 1 0 1001 500000 3) 1501 501
+    ∷ accepted (Open 2 0 1001 500000 3) 1501 501
+    ∷ accepted (Enter 0) 1500000 0
+    ∷ accepted (Enter 1) 2000000 0
+    ∷ accepted (Enter 2) 3000 0
+    ∷ accepted (Enter 3) 5000 0
+    ∷ accepted (Match 1 4) 0 0
+    ∷ accepted (Match 2 4) 0 0
+    -- k 0: a million base at a price p is p quote
+    ∷ refused (Bid 1 3 4 1 1000000 1500) 18
+    ∷ accepted (Bid 1 3 4 1 1000000 1501) 1000000 1501
+    ∷ refused (Bid 2 3 4 0 1000000 502) 18
+    ∷ accepted (Bid 2 3 4 0 1000000 501) 1000000 501
+    -- k 1: 120, where document 01's price asked 116.8, up 117: too much for a bound of 119, and for the 119 that member 4 has
+    ∷ refused (Bid 1 3 5 1 100000 119) 18
+    ∷ refused (Bid 1 4 5 1 100000 500) 19
+    ∷ accepted (Bid 1 3 5 1 100000 120) 100000 120
+    -- 800, where it gave 834; 1,200 base give 0.96, down 0, where it gave 1.0008
+    ∷ refused (Bid 2 3 5 0 1000000 801) 18
+    ∷ refused (Bid 2 3 5 0 1200 0) 17
+    ∷ accepted (Bid 2 3 5 0 1000000 800) 1000000 800
+    -- k 2
+    ∷ refused (Bid 1 3 6 1 100000 89) 18
+    ∷ accepted (Bid 1 3 6 1 100000 90) 100000 90
+    ∷ refused (Bid 2 3 6 0 1000000 1101) 18
+    ∷ accepted (Bid 2 3 6 0 1000000 1100) 1000000 1100
+    -- k 3 = L: 99 above lo, and 1 below hi
+    ∷ refused (Bid 1 3 7 1 100000 59) 18
+    ∷ accepted (Bid 1 3 7 1 100000 60) 100000 60
+    ∷ accepted (Bid 1 3 7 1 1 1) 1 1
+    -- 0.999 and 1.0005, down
+    ∷ refused (Bid 2 3 7 0 666 0) 17
+    ∷ accepted (Bid 2 3 7 0 667 1) 667 1
+    -- 2,598 quote left: 1,732,667 base come to 2,599.0005, 1,732,000 to just 2,598, where document 01's price gave 2,599.7
+    ∷ refused (Bid 2 3 7 0 1732667 0) 17
+    ∷ accepted (Bid 2 3 7 0 1732000 2598) 1732000 2598
+    -- no quote left in market 2; 699,999 base in market 1
+    ∷ accepted (Settle 2 7) 5000 0
+    ∷ refused (Settle 1 7) 13
+    ∷ refused (Bid 1 3 8 1 1 1) 16
+    ∷ accepted (Settle 1 8) 0 1300001
+    ∷ balance-is 3 0 5000
+    ∷ balance-is 3 1 1300001
+    ∷ balance-is 3 2 0
+    -- sells: T 2,000,000, P 1,300,001, G 1501 + 120 + 90 + 60 + 1. 975,000.75 and 1329; 325,000.25 and 443
+    ∷ accepted (Claim 0) 975001 1329
+    ∷ accepted (Claim 1) 325001 443
+    ∷ residue-is 0 0
+    ∷ residue-is 1 1
+    -- buys: T and P 5000, G 4,732,667. 2,839,600.2 and 1,893,066.8
+    ∷ accepted (Claim 2) 3000 2839600
+    ∷ accepted (Claim 3) 2000 1893066
+    ∷ residue-is 2 1
+    ∷ closed-is 1 true
+    ∷ closed-is 2 true
+    ∷ balance-is 1 0 1772
+    ∷ balance-is 2 2 4732666
+    ∷ []
+
+-- No multiple of 100 from lo to hi: r 3, slack 500,000, L 10. The auctions stand still, at 4 for base and at 2 for quote.
+unfoldable pub auctionsStill : List Line
+auctionsStill =
+    accepted (Deposit 1 1 1000000) 1000000 0
+    ∷ accepted (Deposit 2 0 5) 5 0
+    ∷ accepted (Deposit 3 0 3) 3 0
+    ∷ accepted (Deposit 3 2 1000000) 1000000 0
+    ∷ accepted (Order 0 1 1 1 2 1000000) 1000000 0
+    ∷ accepted (Order 1 2 2 0 4 5) 5 0
+    ∷ accepted (Open 1 0 3 500000 10) 4 2
+    ∷ accepted (Open 2 0 3 500000 10) 4 2
+    ∷ accepted (Enter 0) 1000000 0
+    ∷ accepted (Enter 1) 5 0
+    ∷ accepted (Match 1 4) 0 0
+    ∷ accepted (Match 2 4) 0 0
+    -- k 0: 1 for 250,000 base, and for 500,000
+    ∷ accepted (Bid 1 3 4 1 250000 1) 250000 1
+    ∷ refused (Bid 2 3 4 0 499999 0) 17
+    ∷ accepted (Bid 2 3 4 0 500000 1) 500000 1
+    -- k 5: 1.000004, up 2, and 0.7, down 0, where document 01's price of 3 came to 1 both times
+    ∷ refused (Bid 1 3 9 1 250001 1) 18
+    ∷ refused (Bid 2 3 9 0 333334 0) 17
+    -- k 10 = L: 2, where its price of 2 came to 1; 1, where its price of 4 came to 2
+    ∷ refused (Bid 1 3 14 1 500000 1) 18
+    ∷ accepted (Bid 1 3 14 1 500000 9) 500000 2
+    ∷ refused (Bid 2 3 14 0 500000 2) 18
+    ∷ accepted (Bid 2 3 14 0 500000 1) 500000 1
+    ∷ accepted (Settle 1 15) 0 750000
+    ∷ accepted (Settle 2 15) 2 0
+    ∷ accepted (Claim 0) 750000 3
+    ∷ accepted (Claim 1) 2 1000000
+    ∷ balance-is 1 0 3
+    ∷ balance-is 2 2 1000000
+    ∷ balance-is 3 0 2
     ∷ []
 
 -- The last market, ticket, member and token. The edge of the three buys in market 3: T 301, P 200, G 80, and each ticket keeps 33.
@@ -1086,6 +1195,8 @@ examples =
     ∷ matchesBounded
     ∷ matchesLowered
     ∷ quoteOfNothing
+    ∷ pricesStepped
+    ∷ auctionsStill
     ∷ lateMatches
     ∷ lastPlaces
     ∷ (lastBlocks ++ lastSettle)

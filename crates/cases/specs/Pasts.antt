@@ -151,19 +151,19 @@ pasts =
     ∷ []) []
     -- makers on both sides, each in a market of its own
     ∷ pastWith (callsOf lateMatches)
-    (payout 2 Buy 2750000 5955408 2400001
+    (payout 2 Buy 2750000 5955363 2400001
     ∷ payout 3 Sell 2250000 1000000 2500000
-    ∷ payout 15 Buy 2750000 3970270 1599999
-    ∷ payout 15 Sell 240 1949999 578
+    ∷ payout 15 Buy 2750000 3970240 1599999
+    ∷ payout 15 Sell 240 1949998 620
     ∷ payout 0 Buy 360 900 3000000
-    ∷ payout 1 Sell 240 4550003 1351
+    ∷ payout 1 Sell 240 4550002 1449
     ∷ [])
-    (round 3 settled 3 0 1000000 2500000 (sums 10000000 9925677 4000001) (sums 1000000 1000000 2500000) (1 ∷ 0 ∷ 0 ∷ 1 ∷ [])
-    ∷ round 1 settled 3 0 3000000 900 (sums 900 900 3000000) (sums 10000000 6500001 1930) (1 ∷ 1 ∷ 0 ∷ 0 ∷ [])
+    (round 3 settled 3 0 1000000 2500000 (sums 10000000 9925602 4000001) (sums 1000000 1000000 2500000) (1 ∷ 0 ∷ 0 ∷ 1 ∷ [])
+    ∷ round 1 settled 3 0 3000000 900 (sums 900 900 3000000) (sums 10000000 6499999 2070) (1 ∷ 1 ∷ 0 ∷ 0 ∷ [])
     ∷ []) []
-    (tokenNumbers 0 10001928 0 0 2 0 10001930 ∷ tokenNumbers 1 9999999 0 0 1 0 10000000 ∷ tokenNumbers 2 0 0 0 0 0 0 ∷ tokenNumbers 3 4000000 0 0 1 0 4000001 ∷ [])
-    -- the maker's 1030, and what the bids of side 0 brought; what those of side 1 cost
-    (memberNumbers 4 0 7425677 7426707 1030 ∷ memberNumbers 4 1 3500001 3500001 0 ∷ memberNumbers 4 3 0 3000001 3000001 ∷ [])
+    (tokenNumbers 0 10002068 0 0 2 0 10002070 ∷ tokenNumbers 1 9999999 0 0 1 0 10000000 ∷ tokenNumbers 2 0 0 0 0 0 0 ∷ tokenNumbers 3 4000000 0 0 1 0 4000001 ∷ [])
+    -- the maker's 1170, and what the bids of side 0 brought; what those of side 1 cost
+    (memberNumbers 4 0 7425602 7426772 1170 ∷ memberNumbers 4 1 3499999 3499999 0 ∷ memberNumbers 4 3 0 3000001 3000001 ∷ [])
     -- one round paid, one without tickets, one with two claims to come
     ∷ pastWith (callsOf (lastPlacesEnded ++ lastPlacesSettled))
     (payout 15 Sell 1000000 4 3

@@ -10,6 +10,7 @@ ghost use Rattle.pricing.specs.Prices.{
   lowBound,
   lowerTrade,
   tradeWithin,
+  linearPrice,
   steppedUp,
   steppedDown,
   auctionPrice,
@@ -178,6 +179,18 @@ pub fn trade_within(q: Amount, s: Amount, reference: Price, hi: Price, lo: Price
     Trade { base, quote }
 }
 
+// Document 01's price k blocks into an auction of length blocks, of what a side's orders left.
+fn linear_price(side: Side, hi: Price, lo: Price, k: u32, length: u32) -> Price
+    requires { ⌜ (lo .0 ≤ hi .0) × (k ≤ length) × (1 ≤ length) ⌝ }
+    ensures { λ p. ⌜ p .0 ≡ linearPrice side (hi .0) (lo .0) k length ⌝ }
+{
+    let gone = part_down(hi.0 - lo.0, k, length) as u32;
+    match side {
+        Side::Buy => Price(lo.0 + gone),
+        Side::Sell => Price(hi.0 - gone),
+    }
+}
+
 // A price rounded up to a step, but never above hi.
 fn stepped_up(p: Price, hi: Price) -> Price
     ensures { λ r. ⌜ r .0 ≡ steppedUp (hi .0) (p .0) ⌝ }
@@ -200,15 +213,15 @@ fn stepped_down(p: Price, lo: Price) -> Price
     Price(step as u32)
 }
 
-// The price k blocks into an auction of length blocks, of what a side's orders left.
+// The price of an auction: document 01's on a step.
 pub fn auction_price(side: Side, hi: Price, lo: Price, k: u32, length: u32) -> Price
     requires { ⌜ (lo .0 ≤ hi .0) × (k ≤ length) × (1 ≤ length) ⌝ }
     ensures { λ p. ⌜ p ≡ price (auctionPrice side (hi .0) (lo .0) k length) ⌝ }
 {
-    let gone = part_down(hi.0 - lo.0, k, length) as u32;
+    let p = linear_price(side, hi, lo, k, length);
     match side {
-        Side::Buy => stepped_down(Price(lo.0 + gone), lo),
-        Side::Sell => stepped_up(Price(hi.0 - gone), hi),
+        Side::Buy => stepped_down(p, lo),
+        Side::Sell => stepped_up(p, hi),
     }
 }
 
