@@ -14,11 +14,11 @@ use Rattle.pricing.specs.LawExamples.{threeOffers, LawsUsed, LawsMet, La
 -- 1,168 stepped up, and 834 stepped down
 sell-step : SteppedUp 1501 1168 1200
 sell-step =
-    record { reaches = omega arith; close = omega arith; within = omega arith; multiple = inl (12, refl); least = λ m l. omega (arith, l) }
+    record { reaches = omega arith; within = omega arith; multiple = inl (12, refl); least = λ m l. omega (arith, l); close = omega arith }
 
 buy-step : SteppedDown 501 834 800
 buy-step =
-    record { reaches = omega arith; close = omega arith; within = omega arith; multiple = inl (8, refl); greatest = λ m l. omega (arith, l) }
+    record { reaches = omega arith; within = omega arith; multiple = inl (8, refl); greatest = λ m l. omega (arith, l); close = omega arith }
 
 -- between n hundred and the next there is no multiple of 100, so what is one or b is b
 off-hundred : (p b n : ℕ) → n * 100 < p → p < (n + 1) * 100 → ((m : ℕ) × (p ≡ m * 100)) ⊎ (p ≡ b) → p ≡ b
@@ -55,21 +55,21 @@ laws-used =
       prices-last = λ w x len l. w x 100 93 len len (omega arith) l (omega arith);
       prices-one = λ w x hi lo l. w x hi lo 1 1 l (omega arith) (omega arith);
       prices-same = λ w x k l. w x 5 5 k 64 (omega arith) (omega arith) l;
-      up-reaches = λ s p u. u .reaches;
-      up-close = λ s p u. u .close;
-      up-within = λ s p u. u .within;
-      up-least = λ s p u l. omega (arith, u .least 12 (omega (arith, l)));
-      down-reaches = λ s p u. u .reaches;
-      down-close = λ s p u. u .close;
-      down-within = λ s p u. u .within;
-      down-greatest = λ s p u l. omega (arith, u .greatest 8 (omega (arith, l)));
-      sells-kept = λ w hi lo k len m e. let u = w Sell hi lo k len .0 in omega (arith, e, u .reaches, u .least m (omega (arith, e)));
-      buys-kept = λ w hi lo k len m e. let u = w Buy hi lo k len .0 in omega (arith, e, u .reaches, u .greatest m (omega (arith, e)));
+      up-reaches = λ u p s. s .reaches;
+      up-close = λ u p s. s .close;
+      up-within = λ u p s. s .within;
+      up-least = λ u p s l. omega (arith, s .least 12 (omega (arith, l)));
+      down-reaches = λ u p s. s .reaches;
+      down-close = λ u p s. s .close;
+      down-within = λ u p s. s .within;
+      down-greatest = λ u p s l. omega (arith, s .greatest 8 (omega (arith, l)));
+      sells-kept = λ w hi lo k len m e. let s = w Sell hi lo k len .0 in omega (arith, e, s .reaches, s .least m (omega (arith, e)));
+      buys-kept = λ w hi lo k len m e. let s = w Buy hi lo k len .0 in omega (arith, e, s .reaches, s .greatest m (omega (arith, e)));
       stands-still = stands-still;
       sell-alone = λ w. sym (w Sell 1501 501 1 3 .1 1200 sell-step);
       buy-alone = λ w. sym (w Buy 1501 501 1 3 .1 800 buy-step);
       ends-any = λ w len l. let e = w 1501 501 len (omega arith) l in (e .0, e .1, e .2, omega (arith, e .3));
-      ends-one = λ w hi lo l. w hi lo 1 l (omega arith) .1;
+      ends-one = λ w hi lo l. let e = w hi lo 1 l (omega arith) in (e .1, e .3);
       ends-same = λ w len l. let e = w 5 5 len (omega arith) l in (e .0, e .2);
       trades-at-lo = λ w q s hi l. w q s 2500000 hi 2500000 (omega arith) l;
       trades-at-hi = λ w q s lo l. w q s 2500000 2500000 lo l (omega arith);
@@ -94,16 +94,16 @@ laws-met =
       sells-level = omega arith;
       buys-rate = omega arith;
       sells-rate = omega arith;
-      up-most = record { reaches = omega arith; close = omega arith; within = omega arith; multiple = inl (12, refl); least = λ m l. omega (arith, l) };
-      up-one = record { reaches = omega arith; close = omega arith; within = omega arith; multiple = inl (12, refl); least = λ m l. omega (arith, l) };
-      up-none = record { reaches = omega arith; close = omega arith; within = omega arith; multiple = inl (12, refl); least = λ m l. omega (arith, l) };
-      up-capped = record { reaches = omega arith; close = omega arith; within = omega arith; multiple = inr refl; least = λ m l. omega (arith, l) };
-      up-bound = record { reaches = omega arith; close = omega arith; within = omega arith; multiple = inr refl; least = λ m l. omega (arith, l) };
-      down-most = record { reaches = omega arith; close = omega arith; within = omega arith; multiple = inl (8, refl); greatest = λ m l. omega (arith, l) };
-      down-one = record { reaches = omega arith; close = omega arith; within = omega arith; multiple = inl (8, refl); greatest = λ m l. omega (arith, l) };
-      down-none = record { reaches = omega arith; close = omega arith; within = omega arith; multiple = inl (8, refl); greatest = λ m l. omega (arith, l) };
-      down-floored = record { reaches = omega arith; close = omega arith; within = omega arith; multiple = inr refl; greatest = λ m l. omega (arith, l) };
-      down-bound = record { reaches = omega arith; close = omega arith; within = omega arith; multiple = inr refl; greatest = λ m l. omega (arith, l) };
+      up-most = record { reaches = omega arith; within = omega arith; multiple = inl (12, refl); least = λ m l. omega (arith, l); close = omega arith };
+      up-one = record { reaches = omega arith; within = omega arith; multiple = inl (12, refl); least = λ m l. omega (arith, l); close = omega arith };
+      up-none = record { reaches = omega arith; within = omega arith; multiple = inl (12, refl); least = λ m l. omega (arith, l); close = omega arith };
+      up-capped = record { reaches = omega arith; within = omega arith; multiple = inr refl; least = λ m l. omega (arith, l); close = omega arith };
+      up-bound = record { reaches = omega arith; within = omega arith; multiple = inr refl; least = λ m l. omega (arith, l); close = omega arith };
+      down-most = record { reaches = omega arith; within = omega arith; multiple = inl (8, refl); greatest = λ m l. omega (arith, l); close = omega arith };
+      down-one = record { reaches = omega arith; within = omega arith; multiple = inl (8, refl); greatest = λ m l. omega (arith, l); close = omega arith };
+      down-none = record { reaches = omega arith; within = omega arith; multiple = inl (8, refl); greatest = λ m l. omega (arith, l); close = omega arith };
+      down-floored = record { reaches = omega arith; within = omega arith; multiple = inr refl; greatest = λ m l. omega (arith, l); close = omega arith };
+      down-bound = record { reaches = omega arith; within = omega arith; multiple = inr refl; greatest = λ m l. omega (arith, l); close = omega arith };
       trade-fits = record { base-fits = omega arith; quote-fits = omega arith; not-above = omega arith; not-below = omega arith };
       near-above = record { above = omega arith; below = omega arith };
       near-below = record { above = omega arith; below = omega arith };
@@ -121,16 +121,16 @@ laws-refused =
       sells-paid = λ r. omega (arith, r);
       sells-got = λ r. omega (arith, r);
       sells-low = λ r. omega (arith, r);
-      up-short = λ u. omega (arith, u .reaches);
-      up-far = λ u. omega (arith, u .close);
-      up-over = λ u. omega (arith, u .within);
-      down-short = λ u. omega (arith, u .reaches);
-      down-far = λ u. omega (arith, u .close);
-      down-over = λ u. omega (arith, u .within);
-      up-ten = λ u. omega (arith, off-hundred 1170 1501 11 (omega arith) (omega arith) (u .multiple));
-      down-ten = λ u. omega (arith, off-hundred 830 501 8 (omega arith) (omega arith) (u .multiple));
-      up-past = λ u. omega (arith, u .least 12 (omega arith));
-      down-past = λ u. omega (arith, u .greatest 8 (omega arith));
+      up-short = λ s. omega (arith, s .reaches);
+      up-far = λ s. omega (arith, s .close);
+      up-over = λ s. omega (arith, s .within);
+      down-short = λ s. omega (arith, s .reaches);
+      down-far = λ s. omega (arith, s .close);
+      down-over = λ s. omega (arith, s .within);
+      up-ten = λ s. omega (arith, off-hundred 1170 1501 11 (omega arith) (omega arith) (s .multiple));
+      down-ten = λ s. omega (arith, off-hundred 830 501 8 (omega arith) (omega arith) (s .multiple));
+      up-past = λ s. omega (arith, s .least 12 (omega arith));
+      down-past = λ s. omega (arith, s .greatest 8 (omega arith));
       sells-end = λ l. omega (arith, l);
       buys-end = λ l. omega (arith, l);
       base-over = λ f. let h : 4 ≤ 3 = f .base-fits in omega (arith, h);

@@ -71,63 +71,68 @@ low-pos r w h g =
 pub step-pos : 0 < priceStep
 step-pos = lit< tt
 
--- a price up to hi, rounded up to the hundred but never above hi
-pub stepped-up : (hi s : ℕ) → s ≤ hi → SteppedUp hi s (steppedUp hi s)
-stepped-up hi s h =
-    let reach = up-low s priceStep step-pos in
-    let near = up-high s priceStep step-pos in
+-- a price up to hi, rounded up to a multiple of 100 but never above hi
+stepped-up : (hi u : ℕ) → u ≤ hi → SteppedUp hi u (steppedUp hi u)
+stepped-up hi u h =
+    let reach = up-low u priceStep step-pos in
+    let near = up-high u priceStep step-pos in
     record {
       reaches = omega (arith, reach);
-      close = omega (arith, near);
       within = omega arith;
       multiple = go (eq-or-lt-of-le (omega arith));
-      least = λ m l. omega (arith, up-le s priceStep m step-pos (omega (arith, l)));
+      least = λ m l. omega (arith, up-le u priceStep m step-pos (omega (arith, l)));
+      close = omega (arith, near);
     }
   where
-    go : (steppedUp hi s ≡ hi) ⊎ (steppedUp hi s < hi) → ((m : ℕ) × (steppedUp hi s ≡ m * 100)) ⊎ (steppedUp hi s ≡ hi)
+    go : (steppedUp hi u ≡ hi) ⊎ (steppedUp hi u < hi) → ((m : ℕ) × (steppedUp hi u ≡ m * 100)) ⊎ (steppedUp hi u ≡ hi)
     go (inl e) = inr e
-    go (inr l) = inl (up s priceStep, omega (arith, l))
+    go (inr l) = inl (up u priceStep, omega (arith, l))
 
--- a price from lo on, rounded down to it but never below lo
-pub stepped-down : (lo s : ℕ) → lo ≤ s → SteppedDown lo s (steppedDown lo s)
-stepped-down lo s h =
-    let reach = down-low s priceStep in
-    let near = down-high s priceStep step-pos in
+-- a price from lo on, rounded down to a multiple of 100 but never below lo
+stepped-down : (lo u : ℕ) → lo ≤ u → SteppedDown lo u (steppedDown lo u)
+stepped-down lo u h =
+    let reach = down-low u priceStep in
+    let near = down-high u priceStep step-pos in
     record {
       reaches = omega (arith, reach);
-      close = omega (arith, near);
       within = omega arith;
       multiple = go (eq-or-lt-of-le (omega arith));
-      greatest = λ m l. omega (arith, le-down s priceStep m step-pos (omega (arith, l)));
+      greatest = λ m l. omega (arith, le-down u priceStep m step-pos (omega (arith, l)));
+      close = omega (arith, near);
     }
   where
-    go : (lo ≡ steppedDown lo s) ⊎ (lo < steppedDown lo s) → ((m : ℕ) × (steppedDown lo s ≡ m * 100)) ⊎ (steppedDown lo s ≡ lo)
+    go : (lo ≡ steppedDown lo u) ⊎ (lo < steppedDown lo u) → ((m : ℕ) × (steppedDown lo u ≡ m * 100)) ⊎ (steppedDown lo u ≡ lo)
     go (inl e) = inr (sym e)
-    go (inr l) = inl (down s priceStep, omega (arith, l))
+    go (inr l) = inl (down u priceStep, omega (arith, l))
 
--- of two prices the stepped ones keep the order
-up-keeps : (hi s t p q : ℕ) → s ≤ t → SteppedUp hi s p → SteppedUp hi t q → p ≤ q
-up-keeps hi s t p q l u v = go (v .multiple)
+-- stepped prices keep the order of the prices
+up-keeps : (hi u v p q : ℕ) → u ≤ v → SteppedUp hi u p → SteppedUp hi v q → p ≤ q
+up-keeps hi u v p q l s t = go (t .multiple)
   where
     go : ((m : ℕ) × (q ≡ m * 100)) ⊎ (q ≡ hi) → p ≤ q
-    go (inl (m, e)) = omega (arith, e, u .least m (omega (arith, l, e, v .reaches)))
-    go (inr e) = omega (arith, e, u .within)
+    go (inl (m, e)) = omega (arith, e, s .least m (omega (arith, l, e, t .reaches)))
+    go (inr e) = omega (arith, e, s .within)
 
-down-keeps : (lo s t p q : ℕ) → s ≤ t → SteppedDown lo s p → SteppedDown lo t q → p ≤ q
-down-keeps lo s t p q l u v = go (u .multiple)
+down-keeps : (lo u v p q : ℕ) → u ≤ v → SteppedDown lo u p → SteppedDown lo v q → p ≤ q
+down-keeps lo u v p q l s t = go (s .multiple)
   where
     go : ((m : ℕ) × (p ≡ m * 100)) ⊎ (p ≡ lo) → p ≤ q
-    go (inl (m, e)) = omega (arith, e, v .greatest m (omega (arith, l, e, u .reaches)))
-    go (inr e) = omega (arith, e, v .within)
+    go (inl (m, e)) = omega (arith, e, t .greatest m (omega (arith, l, e, s .reaches)))
+    go (inr e) = omega (arith, e, t .within)
 
 -- so a side's stepped prices move as its prices do
-stepped-moves : (x : Side) (hi lo s t p q : ℕ) → Moves x s t → Stepped x hi lo s p → Stepped x hi lo t q → Moves x p q
-stepped-moves Buy hi lo s t p q l u v = down-keeps lo s t p q l u v
-stepped-moves Sell hi lo s t p q l u v = up-keeps hi t s q p l v u
+stepped-moves : (x : Side) (hi lo u v p q : ℕ) → Moves x u v → Stepped x hi lo u p → Stepped x hi lo v q → Moves x p q
+stepped-moves Buy hi lo u v p q l s t = down-keeps lo u v p q l s t
+stepped-moves Sell hi lo u v p q l s t = up-keeps hi v u q p l t s
+
+-- and of one price there is one stepped price
+step-alone : (x : Side) (hi lo u p q : ℕ) → Stepped x hi lo u p → Stepped x hi lo u q → p ≡ q
+step-alone Buy hi lo u p q s t = le-antisymm (down-keeps lo u u p q (omega arith) s t) (down-keeps lo u u q p (omega arith) t s)
+step-alone Sell hi lo u p q s t = le-antisymm (up-keeps hi u u p q (omega arith) s t) (up-keeps hi u u q p (omega arith) t s)
 
 -- ---- bid: the auction's prices
 
--- document 01's price: within the bounds
+-- document 01's price lies within the bounds
 linear-within : (x : Side) (hi lo k len : ℕ) → lo ≤ hi → 0 < len → k ≤ len → (lo ≤ linearPrice x hi lo k len) × (linearPrice x hi lo k len ≤ hi)
 linear-within Buy hi lo k len b h g = (omega arith, omega (arith, part-down-le (hi - lo) k len h g))
 linear-within Sell hi lo k len b h g = (omega (arith, part-down-le (hi - lo) k len h g), omega arith)
@@ -136,38 +141,33 @@ linear-within Sell hi lo k len b h g = (omega (arith, part-down-le (hi - lo) k l
 distance-grows : (d j k len : ℕ) → 0 < len → j ≤ k → down (d * j) len ≤ down (d * k) len
 distance-grows d j k len h g = down-mono (d * j) (d * k) len h (mul-le-mul-left d g)
 
--- the buys' does not fall, and the sells' does not rise
+-- the buys' price does not fall, and the sells' does not rise: document 01's
 linear-moves : (x : Side) (hi lo j k len : ℕ) → 0 < len → j ≤ k → Moves x (linearPrice x hi lo j len) (linearPrice x hi lo k len)
 linear-moves Buy hi lo j k len h g = omega (arith, distance-grows (hi - lo) j k len h g)
 linear-moves Sell hi lo j k len h g = omega (arith, distance-grows (hi - lo) j k len h g)
 
--- a price is document 01's on the hundred
-on-step : (x : Side) (hi lo k len : ℕ) → Stepped x hi lo (linearPrice x hi lo k len) (auctionPrice x hi lo k len)
+-- a price is document 01's, stepped
+stepped : (x : Side) (hi lo k len : ℕ) → Stepped x hi lo (linearPrice x hi lo k len) (auctionPrice x hi lo k len)
 unfolding auctionPrice
-on-step Buy hi lo k len = stepped-down lo _ (omega arith)
-on-step Sell hi lo k len = stepped-up hi _ (omega arith)
-
--- and no other is
-step-alone : (x : Side) (hi lo s p q : ℕ) → Stepped x hi lo s p → Stepped x hi lo s q → p ≡ q
-step-alone Buy hi lo s p q u v = le-antisymm (down-keeps lo s s p q (omega arith) u v) (down-keeps lo s s q p (omega arith) v u)
-step-alone Sell hi lo s p q u v = le-antisymm (up-keeps hi s s p q (omega arith) u v) (up-keeps hi s s q p (omega arith) v u)
+stepped Buy hi lo k len = stepped-down lo _ (omega arith)
+stepped Sell hi lo k len = stepped-up hi _ (omega arith)
 
 pub prices-stepped : PricesStepped
-prices-stepped x hi lo k len = (on-step x hi lo k len, λ p u. step-alone x hi lo _ p _ u (on-step x hi lo k len))
+prices-stepped x hi lo k len = (stepped x hi lo k len, λ p s. step-alone x hi lo _ p _ s (stepped x hi lo k len))
 
 -- a price lies within the bounds
 pub price-within : PricesWithin
 price-within Buy hi lo k len b h g =
-    let s = on-step Buy hi lo k len in (s .within, omega (arith, s .reaches, linear-within Buy hi lo k len b h g .1))
+    let s = stepped Buy hi lo k len in (s .within, omega (arith, s .reaches, linear-within Buy hi lo k len b h g .1))
 price-within Sell hi lo k len b h g =
-    let s = on-step Sell hi lo k len in (omega (arith, s .reaches, linear-within Sell hi lo k len b h g .0), s .within)
+    let s = stepped Sell hi lo k len in (omega (arith, s .reaches, linear-within Sell hi lo k len b h g .0), s .within)
 
 -- at the last block the sells' price is less than a step above lo, and the buys' less than one below hi
 pub price-ends : PricesEnd
 price-ends hi lo len b h =
     let e = whole-down (hi - lo) len h in
-    let sell = on-step Sell hi lo len len in
-    let buy = on-step Buy hi lo len len in (
+    let sell = stepped Sell hi lo len len in
+    let buy = stepped Buy hi lo len len in (
       omega (arith, e, sell .reaches),
       omega (arith, e, sell .close),
       omega (arith, e, buy .reaches),
@@ -178,15 +178,15 @@ price-ends hi lo len b h =
 pub price-starts : (hi lo len : ℕ) → (auctionPrice Sell hi lo 0 len ≡ hi) × (auctionPrice Buy hi lo 0 len ≡ lo)
 price-starts hi lo len =
     let e : down ((hi - lo) * 0) len ≡ 0 = rw mul-zero (down-none len) in
-    let sell = on-step Sell hi lo 0 len in
-    let buy = on-step Buy hi lo 0 len in
+    let sell = stepped Sell hi lo 0 len in
+    let buy = stepped Buy hi lo 0 len in
     (omega (arith, e, sell .reaches, sell .within), omega (arith, e, buy .reaches, buy .within))
 
 -- the sells' price is lo at the last block only
 pub sell-low-only-at-end : (hi lo k len : ℕ) → lo < hi → 0 < len → k ≤ len → auctionPrice Sell hi lo k len ≡ lo → k ≡ len
 sell-low-only-at-end hi lo k len b h g e =
     let d : ℕ = hi - lo in
-    let s = on-step Sell hi lo k len in
+    let s = stepped Sell hi lo k len in
     let whole : down (d * k) len ≡ d = omega (arith, e, s .reaches, part-down-le d k len h g) in
     let low : d * len ≤ d * k = omega (arith, rw whole at (down-low (d * k) len)) in
     le-antisymm g (le-of-mul-le-mul-left low (omega arith))
@@ -194,4 +194,4 @@ sell-low-only-at-end hi lo k len b h g e =
 -- the buys' price does not fall, and the sells' does not rise
 pub price-moves : (x : Side) (hi lo j k len : ℕ) → 0 < len → j ≤ k → Moves x (auctionPrice x hi lo j len) (auctionPrice x hi lo k len)
 price-moves x hi lo j k len h g =
-    stepped-moves x hi lo _ _ _ _ (linear-moves x hi lo j k len h g) (on-step x hi lo j len) (on-step x hi lo k len)
+    stepped-moves x hi lo _ _ _ _ (linear-moves x hi lo j k len h g) (stepped x hi lo j len) (stepped x hi lo k len)

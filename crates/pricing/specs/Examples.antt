@@ -135,8 +135,8 @@ tradeCases =
 -- ---- 8 bid
 
 -- at blocks 0 to 3 of 3 document 01's prices, and the stepped ones
-abbrev pub linears : Side → ℕ → ℕ → List ℕ
-linears x hi lo = map (λ k. linearPrice x hi lo k 3) (0 ∷ 1 ∷ 2 ∷ 3 ∷ [])
+abbrev pub linearPrices : Side → ℕ → ℕ → List ℕ
+linearPrices x hi lo = map (λ k. linearPrice x hi lo k 3) (0 ∷ 1 ∷ 2 ∷ 3 ∷ [])
 
 abbrev pub prices : Side → ℕ → ℕ → List ℕ
 prices x hi lo = map (λ k. auctionPrice x hi lo k 3) (0 ∷ 1 ∷ 2 ∷ 3 ∷ [])
@@ -148,8 +148,8 @@ halfWay x hi lo = auctionPrice x hi lo 1 2
 unfoldable pub priceCases : List (List ℕ × List ℕ)
 priceCases =
     -- hi - lo 7 in three: 0, 2.3.., 4.6.. and 7, rounded down
-    (linears Sell 100 93, 100 ∷ 98 ∷ 96 ∷ 93 ∷ [])
-    ∷ (linears Buy 100 93, 93 ∷ 95 ∷ 97 ∷ 100 ∷ [])
+    (linearPrices Sell 100 93, 100 ∷ 98 ∷ 96 ∷ 93 ∷ [])
+    ∷ (linearPrices Buy 100 93, 93 ∷ 95 ∷ 97 ∷ 100 ∷ [])
     -- "rounded up to a multiple of 100, but never above hi", here 1,501; "rounded down to one, but never below lo", here 501
     ∷ (
       map (steppedUp 1501) (0 ∷ 1 ∷ 99 ∷ 100 ∷ 101 ∷ 1400 ∷ 1401 ∷ 1500 ∷ 1501 ∷ []),
@@ -160,9 +160,9 @@ priceCases =
       501 ∷ 501 ∷ 600 ∷ 600 ∷ 600 ∷ 700 ∷ 1400 ∷ 1500 ∷ 1500 ∷ [],
     )
     -- bounds off the hundred: side 1 ends 99 above lo, side 0 1 below hi
-    ∷ (linears Sell 1501 501, 1501 ∷ 1168 ∷ 835 ∷ 501 ∷ [])
+    ∷ (linearPrices Sell 1501 501, 1501 ∷ 1168 ∷ 835 ∷ 501 ∷ [])
     ∷ (prices Sell 1501 501, 1501 ∷ 1200 ∷ 900 ∷ 600 ∷ [])
-    ∷ (linears Buy 1501 501, 501 ∷ 834 ∷ 1167 ∷ 1501 ∷ [])
+    ∷ (linearPrices Buy 1501 501, 501 ∷ 834 ∷ 1167 ∷ 1501 ∷ [])
     ∷ (prices Buy 1501 501, 501 ∷ 800 ∷ 1100 ∷ 1500 ∷ [])
     -- the other way round: 1 above lo, 99 below hi
     ∷ (prices Sell 1599 599, 1599 ∷ 1300 ∷ 1000 ∷ 600 ∷ [])

@@ -40,15 +40,15 @@ pub record LawsUsed : Type 0 where
   pub prices-last : PricesWithin → (x : Side) (len : ℕ) → 0 < len → (93 ≤ auctionPrice x 100 93 len len) × (auctionPrice x 100 93 len len ≤ 100)
   pub prices-one : PricesWithin → (x : Side) (hi lo : ℕ) → lo ≤ hi → (lo ≤ auctionPrice x hi lo 1 1) × (auctionPrice x hi lo 1 1 ≤ hi)
   pub prices-same : PricesWithin → (x : Side) (k : ℕ) → k ≤ 64 → (5 ≤ auctionPrice x 5 5 k 64) × (auctionPrice x 5 5 k 64 ≤ 5)
-  -- a price on the hundred, with hi 1,501 on side 1 and lo 501 on side 0
-  pub up-reaches : (s p : ℕ) → SteppedUp 1501 s p → s ≤ p
-  pub up-close : (s p : ℕ) → SteppedUp 1501 s p → p < s + 100
-  pub up-within : (s p : ℕ) → SteppedUp 1501 s p → p ≤ 1501
-  pub up-least : (s p : ℕ) → SteppedUp 1501 s p → s ≤ 1200 → p ≤ 1200
-  pub down-reaches : (s p : ℕ) → SteppedDown 501 s p → p ≤ s
-  pub down-close : (s p : ℕ) → SteppedDown 501 s p → s < p + 100
-  pub down-within : (s p : ℕ) → SteppedDown 501 s p → 501 ≤ p
-  pub down-greatest : (s p : ℕ) → SteppedDown 501 s p → 800 ≤ s → 800 ≤ p
+  -- a stepped price, with hi 1,501 on side 1 and lo 501 on side 0
+  pub up-reaches : (u p : ℕ) → SteppedUp 1501 u p → u ≤ p
+  pub up-close : (u p : ℕ) → SteppedUp 1501 u p → p < u + 100
+  pub up-within : (u p : ℕ) → SteppedUp 1501 u p → p ≤ 1501
+  pub up-least : (u p : ℕ) → SteppedUp 1501 u p → u ≤ 1200 → p ≤ 1200
+  pub down-reaches : (u p : ℕ) → SteppedDown 501 u p → p ≤ u
+  pub down-close : (u p : ℕ) → SteppedDown 501 u p → u < p + 100
+  pub down-within : (u p : ℕ) → SteppedDown 501 u p → 501 ≤ p
+  pub down-greatest : (u p : ℕ) → SteppedDown 501 u p → 800 ≤ u → 800 ≤ p
   -- document 01's price stays where it is a multiple of 100
   pub sells-kept :
       PricesStepped → (hi lo k len m : ℕ) → linearPrice Sell hi lo k len ≡ m * 100 → auctionPrice Sell hi lo k len ≡ linearPrice Sell hi lo k len
@@ -57,7 +57,7 @@ pub record LawsUsed : Type 0 where
   -- no multiple of 100 from 2 to 4: 4 and 2 at every block of any auction
   pub stands-still :
       PricesStepped → PricesWithin → (k len : ℕ) → 0 < len → k ≤ len → (auctionPrice Sell 4 2 k len ≡ 4) × (auctionPrice Buy 4 2 k len ≡ 2)
-  -- no other price: 1,168 and 834 are worked by hand, the steps by what a step is
+  -- 1,200 is 1,168 stepped and 800 is 834 stepped, so these are the prices
   pub sell-alone : PricesStepped → auctionPrice Sell 1501 501 1 3 ≡ 1200
   pub buy-alone : PricesStepped → auctionPrice Buy 1501 501 1 3 ≡ 800
   -- the end of any auction between 501 and 1,501, of one block between any bounds, and where the bounds are the same
@@ -65,7 +65,7 @@ pub record LawsUsed : Type 0 where
       PricesEnd → (len : ℕ) → 0 < len
       → (501 ≤ auctionPrice Sell 1501 501 len len) × (auctionPrice Sell 1501 501 len len < 601)
       × (auctionPrice Buy 1501 501 len len ≤ 1501) × (1401 < auctionPrice Buy 1501 501 len len)
-  pub ends-one : PricesEnd → (hi lo : ℕ) → lo ≤ hi → auctionPrice Sell hi lo 1 1 < lo + 100
+  pub ends-one : PricesEnd → (hi lo : ℕ) → lo ≤ hi → (auctionPrice Sell hi lo 1 1 < lo + 100) × (hi < auctionPrice Buy hi lo 1 1 + 100)
   pub ends-same : PricesEnd → (len : ℕ) → 0 < len → (5 ≤ auctionPrice Sell 5 5 len len) × (auctionPrice Buy 5 5 len len ≤ 5)
   -- what any two sides trade where lo is r, and where hi is r
   pub trades-at-lo : TradesFit → (q s hi : ℕ) → 2500000 ≤ hi → TradeFits q s 2500000 hi (tradeWithin q s 2500000 hi 2500000)
@@ -140,7 +140,7 @@ pub record LawsRefused : Type 0 where
   pub sells-paid : Rate Sell 2750000 2250000 5 9 → ⊥
   pub sells-got : Rate Sell 2750000 2250000 4 8 → ⊥
   pub sells-low : Rate Sell 2750000 2250001 4 9 → ⊥
-  -- on the hundred: the wrong way, a step too far, past the bound
+  -- stepped the wrong way, a step too far, past the bound
   pub up-short : SteppedUp 1501 1201 1200 → ⊥
   pub up-far : SteppedUp 1501 1100 1200 → ⊥
   pub up-over : SteppedUp 1199 1168 1200 → ⊥

@@ -17,26 +17,28 @@ abbrev pub Moves : Side → ℕ → ℕ → Type 0
 Moves Buy a b = a ≤ b
 Moves Sell a b = b ≤ a
 
--- p is s rounded up to a multiple of 100, but never above hi: the least number from s to hi that is a multiple or hi itself
-pub record SteppedUp (hi s p : ℕ) : Type 0 where
-  pub reaches : s ≤ p
-  pub close : p < s + 100
+-- p is u rounded up to a multiple of 100, but never above hi: the least number from u to hi that is a multiple or hi itself
+pub record SteppedUp (hi u p : ℕ) : Type 0 where
+  pub reaches : u ≤ p
   pub within : p ≤ hi
   pub multiple : ((m : ℕ) × (p ≡ m * 100)) ⊎ (p ≡ hi)
-  pub least : (m : ℕ) → s ≤ m * 100 → p ≤ m * 100
+  pub least : (m : ℕ) → u ≤ m * 100 → p ≤ m * 100
+  -- what follows
+  pub close : p < u + 100
 
--- p is s rounded down to a multiple of 100, but never below lo
-pub record SteppedDown (lo s p : ℕ) : Type 0 where
-  pub reaches : p ≤ s
-  pub close : s < p + 100
+-- p is u rounded down to a multiple of 100, but never below lo: the greatest number from lo to u that is a multiple or lo itself
+pub record SteppedDown (lo u p : ℕ) : Type 0 where
+  pub reaches : p ≤ u
   pub within : lo ≤ p
   pub multiple : ((m : ℕ) × (p ≡ m * 100)) ⊎ (p ≡ lo)
-  pub greatest : (m : ℕ) → m * 100 ≤ s → m * 100 ≤ p
+  pub greatest : (m : ℕ) → m * 100 ≤ u → m * 100 ≤ p
+  -- what follows
+  pub close : u < p + 100
 
--- p is a side's price s on the hundred
+-- p is a side's price u, stepped
 abbrev pub Stepped : Side → ℕ → ℕ → ℕ → ℕ → Type 0
-Stepped Buy hi lo s p = SteppedDown lo s p
-Stepped Sell hi lo s p = SteppedUp hi s p
+Stepped Buy hi lo u p = SteppedDown lo u p
+Stepped Sell hi lo u p = SteppedUp hi u p
 
 -- a trade takes no more than either side has, and its price lies within the bounds
 pub record TradeFits (q s lo hi : ℕ) (t : Trade) : Type 0 where
@@ -77,14 +79,14 @@ abbrev pub PricesWithin : Type 0
 PricesWithin =
     (x : Side) (hi lo k len : ℕ) → lo ≤ hi → 0 < len → k ≤ len → (lo ≤ auctionPrice x hi lo k len) × (auctionPrice x hi lo k len ≤ hi)
 
--- L6: it is document 01's price on the hundred, whatever the numbers, and no other price is
+-- L6: it is document 01's price stepped, whatever the numbers, and no other number is
 abbrev pub PricesStepped : Type 0
 PricesStepped =
     (x : Side) (hi lo k len : ℕ)
-    → let s : ℕ = linearPrice x hi lo k len in
-    Stepped x hi lo s (auctionPrice x hi lo k len) × ((p : ℕ) → Stepped x hi lo s p → p ≡ auctionPrice x hi lo k len)
+    → let u : ℕ = linearPrice x hi lo k len in
+    Stepped x hi lo u (auctionPrice x hi lo k len) × ((p : ℕ) → Stepped x hi lo u p → p ≡ auctionPrice x hi lo k len)
 
--- "At k = L the side 1 price may now stand above lo, and the side 0 price below hi, by less than 100"
+-- L6: "At k = L the side 1 price may now stand above lo, and the side 0 price below hi, by less than 100"
 abbrev pub PricesEnd : Type 0
 PricesEnd =
     (hi lo len : ℕ) → lo ≤ hi → 0 < len

@@ -1,4 +1,5 @@
--- The numbers of document 01's calls open, match, bid and claim, and of document 02's L4 on match and L6 on bid. A price counts millionths of a quote unit per base unit.
+-- The numbers of document 01's calls open, match, bid and claim, and of document 02's L4 on match and L6 on bid. A price counts millionths of
+-- a quote unit per base unit.
 use mathlib.Core.Bool.{Bool, cond, _&&_}
 use Prim.Native.Nat.{ℕ, _+_, _-_, _*_, min, max}
 use lib.Dec.{leb, ltb}
@@ -67,16 +68,16 @@ linearPrice Sell hi lo k len = hi - down ((hi - lo) * k) len
 abbrev pub priceStep : ℕ
 priceStep = 100
 
--- "The price for side 1 is now rounded up to a multiple of 100, but never above hi."; "Where such a rounding would pass hi .. hi .. itself
--- is the price."
+-- L6: "The price for side 1 is now rounded up to a multiple of 100, but never above hi."; "Where such a rounding would pass hi .. hi ..
+-- itself is the price."
 abbrev pub steppedUp : ℕ → ℕ → ℕ
-steppedUp hi p = min hi (up p priceStep * priceStep)
+steppedUp hi u = min hi (up u priceStep * priceStep)
 
--- "The price for side 0 is rounded down to one, but never below lo."; ".. lo itself is the price."
+-- L6: "The price for side 0 is rounded down to one, but never below lo."; ".. lo itself is the price."
 abbrev pub steppedDown : ℕ → ℕ → ℕ
-steppedDown lo p = max lo (down p priceStep * priceStep)
+steppedDown lo u = max lo (down u priceStep * priceStep)
 
--- "the stepped price", from which "Every cost, bound test and lot test works"
+-- L6: "the stepped price", from which "Every cost, bound test and lot test works"
 unfoldable pub auctionPrice : Side → ℕ → ℕ → ℕ → ℕ → ℕ
 auctionPrice Buy hi lo k len = steppedDown lo (linearPrice Buy hi lo k len)
 auctionPrice Sell hi lo k len = steppedUp hi (linearPrice Sell hi lo k len)

@@ -28,7 +28,7 @@ use units::product;
 // A price counts millionths.
 const MILLION: u32 = 1_000_000;
 
-// Auction prices stand on multiples of this.
+// Auction prices go in steps of this, but for hi and lo.
 const PRICE_STEP: u64 = 100;
 
 // The side of an order: a buy (0) offers quote, a sell (1) offers base.
@@ -179,7 +179,7 @@ pub fn trade_within(q: Amount, s: Amount, reference: Price, hi: Price, lo: Price
     Trade { base, quote }
 }
 
-// Document 01's price k blocks into an auction of length blocks, of what a side's orders left.
+// The price k blocks into an auction of length blocks, of what a side's orders left, before it is stepped.
 fn linear_price(side: Side, hi: Price, lo: Price, k: u32, length: u32) -> Price
     requires { ⌜ (lo .0 ≤ hi .0) × (k ≤ length) × (1 ≤ length) ⌝ }
     ensures { λ p. ⌜ p .0 ≡ linearPrice side (hi .0) (lo .0) k length ⌝ }
@@ -191,29 +191,29 @@ fn linear_price(side: Side, hi: Price, lo: Price, k: u32, length: u32) -> Price
     }
 }
 
-// A price rounded up to a step, but never above hi.
+// A price rounded up to a step, but never above hi. Rounded up it can pass 32 bits.
 fn stepped_up(p: Price, hi: Price) -> Price
     ensures { λ r. ⌜ r .0 ≡ steppedUp (hi .0) (p .0) ⌝ }
 {
-    let step = div_up(p.0 as u64, PRICE_STEP) * PRICE_STEP;
-    if (hi.0 as u64) < step {
+    let rounded = div_up(p.0 as u64, PRICE_STEP) * PRICE_STEP;
+    if (hi.0 as u64) < rounded {
         return hi;
     }
-    Price(step as u32)
+    Price(rounded as u32)
 }
 
 // A price rounded down to a step, but never below lo.
 fn stepped_down(p: Price, lo: Price) -> Price
     ensures { λ r. ⌜ r .0 ≡ steppedDown (lo .0) (p .0) ⌝ }
 {
-    let step = div_down(p.0 as u64, PRICE_STEP) * PRICE_STEP;
-    if step < (lo.0 as u64) {
+    let rounded = div_down(p.0 as u64, PRICE_STEP) * PRICE_STEP;
+    if rounded < (lo.0 as u64) {
         return lo;
     }
-    Price(step as u32)
+    Price(rounded as u32)
 }
 
-// The price of an auction: document 01's on a step.
+// The auction's price at that block, stepped.
 pub fn auction_price(side: Side, hi: Price, lo: Price, k: u32, length: u32) -> Price
     requires { ⌜ (lo .0 ≤ hi .0) × (k ≤ length) × (1 ≤ length) ⌝ }
     ensures { λ p. ⌜ p ≡ price (auctionPrice side (hi .0) (lo .0) k length) ⌝ }

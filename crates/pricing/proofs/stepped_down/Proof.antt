@@ -13,8 +13,8 @@ div-down-requires : tie.Need-div-down-requires
 div-down-requires c κs = search needs
 
 -- a multiple of 100 that is not above the price
-mul-step : tie.Need-mul-step
-mul-step c = omega (arith, c .div-down .ensures, down-low (c .before .before .args .p .0) priceStep)
+mul-rounded : tie.Need-mul-rounded
+mul-rounded c = omega (arith, c .div-down .ensures, down-low (c .before .before .args .p .0) priceStep)
 
 cast-if1 : tie.Need-cast-if1
 cast-if1 c = search needs
@@ -33,4 +33,4 @@ returns-2 c = search needs
 pub stepped-down-spec : {M : Type 1} → statement M
 stepped-down-spec =
     tie.close
-    (tie.spec cast-div-down div-down-requires mul-step cast-if1 returns cast-t7 returns-2)
+    (tie.spec cast-div-down div-down-requires mul-rounded cast-if1 returns cast-t7 returns-2)

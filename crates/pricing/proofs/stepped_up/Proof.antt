@@ -14,8 +14,8 @@ div-up-requires : tie.Need-div-up-requires
 div-up-requires c κs = search needs
 
 -- a multiple of 100 that is less than a step above the price
-mul-step : tie.Need-mul-step
-mul-step c = omega (arith, c .div-up .ensures, up-high (c .before .before .args .p .0) priceStep step-pos)
+mul-rounded : tie.Need-mul-rounded
+mul-rounded c = omega (arith, c .div-up .ensures, up-high (c .before .before .args .p .0) priceStep step-pos)
 
 cast-if1 : tie.Need-cast-if1
 cast-if1 c = search needs
@@ -31,4 +31,4 @@ returns-2 c = search needs
 
 pub stepped-up-spec : {M : Type 1} → statement M
 stepped-up-spec =
-    tie.close (tie.spec cast-div-up div-up-requires mul-step cast-if1 returns cast-t7 returns-2)
+    tie.close (tie.spec cast-div-up div-up-requires mul-rounded cast-if1 returns cast-t7 returns-2)
