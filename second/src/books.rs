@@ -55,8 +55,8 @@ pub fn check(x: &Exchange) -> Result<(), &'static str> {
 
 /// The books are right after a call. A refused one answers two zeros and
 /// changes nothing. Only accepted deposits and withdrawals move the supply, by
-/// their amounts; enter and leave are as `check_move` says, and match as
-/// `check_match` says.
+/// their amounts; enter and leave are as `check_move` says, match as
+/// `check_match` says, and bid as `check_bid` says.
 pub fn check_call(
     was: &Exchange,
     is: &Exchange,
@@ -78,7 +78,8 @@ pub fn check_call(
         wrong_if(!right, "the supply did not move by what came and went")?;
     }
     check_move(was, is, call, answer)?;
-    check_match(was, is, call, answer)
+    check_match(was, is, call, answer)?;
+    check_bid(was, is, call, answer)
 }
 
 /// A list of orders leaves what its orders leave singly, from first to last,
@@ -183,6 +184,70 @@ fn check_match(
     let (worth, paid) = (base * round.reference, quote * MILLION);
     wrong_if(paid.abs_diff(worth) >= MILLION, "a match a unit of quote off its worth")?;
     wrong_if(paid < worth && quote < most, "a match rounded down where up keeps hi")
+}
+
+/// An accepted bid is made within its auction, at a price as `check_price`
+/// says. Its quote is what its base comes to at that price, rounded up where
+/// the maker pays it and down where the maker gets it; it keeps the bound, and
+/// takes no more than the side has left. The round and the maker's balances
+/// move by just what it answers. Other calls pass.
+fn check_bid(
+    was: &Exchange,
+    is: &Exchange,
+    call: Call,
+    answer: Answer,
+) -> Result<(), &'static str> {
+    let Call::Bid { market, member, block, side, base, bound } = call else { return Ok(()) };
+    let place = (market as usize).wrapping_sub(1);
+    let round = was.markets().get(place).copied().unwrap_or_default();
+    let k = block.wrapping_sub(round.start);
+    let within = round.phase == Phase::Auction && k <= round.length;
+    wrong_if(!within, "a bid outside an auction")?;
+    wrong_if(member as usize >= MEMBERS || side > 1, "a bid is out of its ranges")?;
+    let price = round.price(side, k);
+    check_price(&round, side, k, price)?;
+
+    wrong_if(answer.first != base, "a bid answers other base than its own")?;
+    let [base, quote, bound] = [base, answer.second, bound].map(u64::from);
+    let (worth, paid) = (base * price, quote * MILLION);
+    wrong_if(paid.abs_diff(worth) >= MILLION, "a bid a unit of quote off its worth")?;
+    let (gains, misses) =
+        if side == 1 { (paid < worth, quote > bound) } else { (paid > worth, quote < bound) };
+    wrong_if(gains, "a bid rounded in its maker's favour")?;
+    wrong_if(misses, "a bid misses its bound")?;
+
+    // Taken from the side's offers, and given by the maker in exchange.
+    let (taken, given) = if side == 1 { (base, quote) } else { (quote, base) };
+    let side = side as usize;
+    let left = round.halves[side].left();
+    wrong_if(!(1..=left).contains(&taken), "a bid takes nothing or more than is left")?;
+    let mut after = round;
+    after.halves[side].paid += taken;
+    after.halves[side].got += given;
+    after.holds[side] -= taken;
+    after.holds[1 - side] += given;
+    wrong_if(is.markets()[place] != after, "a bid does not move in its round what it answers")?;
+    let [taken_token, given_token] = if side == 1 { [place + 1, 0] } else { [0, place + 1] };
+    let mut balances = *was.balances();
+    let row = &mut balances[member as usize];
+    wrong_if(row[given_token] < given, "a bid by a maker who lacks what it costs")?;
+    row[given_token] -= given;
+    row[taken_token] += taken;
+    wrong_if(*is.balances() != balances, "a bid does not move in balances what it answers")
+}
+
+/// A price of an auction lies from lo to hi, and less than 100 from where it
+/// would be without steps. From there on it is the first that is a multiple of
+/// 100 or the bound: upwards to hi for side 1, downwards to lo for side 0.
+pub fn check_price(round: &Market, side: u32, k: u32, price: u64) -> Result<(), &'static str> {
+    let Market { hi, lo, .. } = *round;
+    let moved = (hi - lo) * u64::from(k) / u64::from(round.length);
+    let from = if side == 1 { hi - moved } else { lo + moved };
+    wrong_if(!(lo..=hi).contains(&price), "a price breaks a bound")?;
+    wrong_if(price.abs_diff(from) >= 100, "a price is a whole step off")?;
+    let stops = |at: &u64| *at % 100 == 0 || *at == if side == 1 { hi } else { lo };
+    let first = if side == 1 { (from..=hi).find(stops) } else { (lo..=from).rev().find(stops) };
+    wrong_if(first != Some(price), "a price is not the first on a step or at its bound")
 }
 
 fn wrong_if(wrong: bool, text: &'static str) -> Result<(), &'static str> {

@@ -150,10 +150,20 @@ impl Drafts {
         (member + self.chance.between(1, 15)) % 16
     }
 
-    /// A member with at least so much of a token, any of them.
-    pub fn find_member(&mut self, token: u64, least: u64) -> Option<u64> {
+    /// A member whose balance of a token passes the test, any of them.
+    fn find_balance(&mut self, token: u64, test: impl Fn(u64) -> bool) -> Option<u64> {
         let first = self.chance.below(16);
-        (0..16).map(|i| (first + i) % 16).find(|&i| self.balance(i, token) >= least)
+        (0..16).map(|i| (first + i) % 16).find(|&i| test(self.balance(i, token)))
+    }
+
+    /// A member with at least so much of a token.
+    pub fn find_member(&mut self, token: u64, least: u64) -> Option<u64> {
+        self.find_balance(token, |balance| balance >= least)
+    }
+
+    /// A member with less than so much of a token.
+    pub fn find_poor(&mut self, token: u64, wanted: u64) -> Option<u64> {
+        self.find_balance(token, |balance| balance < wanted)
     }
 
     pub fn find_market(&mut self, phase: Phase) -> Option<u64> {
@@ -403,6 +413,39 @@ impl Drafts {
         })
     }
 
+    /// The quote of a bid in an auction, and what it would be if prices had no
+    /// steps.
+    pub fn bid_quotes(&self, bid: &Draft) -> [u64; 2] {
+        let [market, _, block, side, base, _] = bid.f;
+        let round = self.market(market);
+        let side = side as u32;
+        let k = block as u32 - round.start;
+        [round.price(side, k), round.unstepped_price(side, k)]
+            .map(|price| bid_quote(side, base as u32, price))
+    }
+
+    /// The least and the most base with which a bid takes something and no more
+    /// than its side has left; the most may be above all numbers.
+    pub fn bid_range(&self, market: u64, side: u64, block: u64) -> (u64, u64) {
+        let round = self.market(market);
+        let left = round.halves[side as usize].left();
+        if side == 1 {
+            return (1, left);
+        }
+        let price = round.price(0, block as u32 - round.start);
+        (MILLION.div_ceil(price), ((left + 1) * MILLION - 1) / price)
+    }
+
+    /// The token that the maker of a bid gives, and how much of it.
+    pub fn bid_given(&self, bid: &Draft) -> (u64, u64) {
+        let [market, _, _, side, base, _] = bid.f;
+        if side == 1 {
+            (0, self.bid_quotes(bid)[0])
+        } else {
+            (market, base)
+        }
+    }
+
     /// A bid with side, size and bound that fit; its maker may be too poor.
     pub fn bid_draft(&mut self, market: u64) -> Option<Draft> {
         let block = self.bid_block(market)?;
@@ -412,16 +455,10 @@ impl Drafts {
         if round.halves[side as usize].left() == 0 {
             side = 1 - side;
         }
-        let left = round.halves[side as usize].left();
         let price = round.price(side as u32, k);
-        let (low, high) = if side == 1 {
-            (1, left)
-        } else {
-            // The least and the most base whose quote is 1 to what is left.
-            (MILLION.div_ceil(price), ((left + 1) * MILLION - 1) / price)
-        };
+        let (low, high) = self.bid_range(market, side, block);
         let high = high.min(MOST);
-        if left == 0 || low > high {
+        if low > high {
             return None;
         }
         let mut base = match self.chance.below(6) {
@@ -450,8 +487,7 @@ impl Drafts {
         let quote = if side == 1 { given } else { bid_quote(0, base as u32, price) };
         let bound = match (self.chance.below(4), side) {
             (0 | 1, _) => quote,
-            (2, 1) => MOST,
-            (2, _) => 0,
+            (2, _) => wide_bound(side),
             (_, 1) => quote + self.chance.below(100),
             (_, _) => quote - self.chance.below(quote.min(100)),
         };
@@ -504,10 +540,7 @@ impl Drafts {
                 Draft::new(5, &draft)
             }
             7 | 9 => Draft::new(kind, &[market, block]),
-            8 => {
-                let bound = if side == 1 { MOST } else { 0 };
-                Draft::new(8, &[market, member, block, side, amount, bound])
-            }
+            8 => Draft::new(8, &[market, member, block, side, amount, wide_bound(side)]),
             6 | 10 => Draft::new(kind, &[ticket]),
             _ => unreachable!("no kind {kind}"),
         }
@@ -908,20 +941,12 @@ impl Drafts {
             let block = self.bid_block(market)?;
             let side = self.chance.below(2);
             let left = round.halves[side as usize].left();
-            let price = round.price(side as u32, block as u32 - round.start);
-            let base = if side == 1 {
-                match self.chance.below(2) {
-                    0 => left + 1,
-                    _ => self.chance.between(left + 1, MOST),
-                }
-            } else {
-                let small = (MILLION - 1) / price;
-                let large = (left + 1) * MILLION / price + 1;
-                match self.chance.below(4) {
-                    0 | 1 if small > 0 => self.chance.between(1, small),
-                    2 => self.chance.between(large.min(MOST), MOST),
-                    _ => ((left + 1) * MILLION).div_ceil(price),
-                }
+            let (low, high) = self.bid_range(market, side, block);
+            let base = match self.chance.below(4) {
+                0 if low > 1 => low - 1,
+                1 if low > 1 => self.chance.between(1, low - 1),
+                2 => self.chance.between(high + 1, MOST),
+                _ => high + 1,
             };
             let bound = self.chance.pick(&[0, 1, left, MOST]);
             let member = self.chance.below(16);
@@ -929,11 +954,11 @@ impl Drafts {
             return Some(());
         }
         *draft = self.bid_draft(market)?;
-        let [_, _, block, side, base, _] = draft.f;
-        let price = round.price(side as u32, block as u32 - round.start);
-        let quote = bid_quote(side as u32, base as u32, price);
         if code == 18 {
+            let side = draft.f[3];
+            let [quote, unstepped] = self.bid_quotes(draft);
             draft.f[5] = match (self.chance.below(3), side) {
+                (0, _) if unstepped != quote => unstepped.min(MOST),
                 (0 | 1, 1) => (quote - 1).min(MOST),
                 (0 | 1, _) => (quote + 1).min(MOST),
                 (_, 1) => self.chance.below(quote.min(MOST)),
@@ -943,10 +968,8 @@ impl Drafts {
                 draft.f[1] = self.chance.below(16);
             }
         } else {
-            let (token, given) = if side == 1 { (0, quote) } else { (market, base) };
-            let first = self.chance.below(16);
-            draft.f[1] =
-                (0..16).map(|i| (first + i) % 16).find(|&i| self.balance(i, token) < given)?;
+            let (token, given) = self.bid_given(draft);
+            draft.f[1] = self.find_poor(token, given)?;
         }
         Some(())
     }
@@ -1047,6 +1070,15 @@ pub fn wide_limit(side: u64) -> u64 {
         2_000_000_000
     } else {
         1
+    }
+}
+
+/// The bound that a side's bids keep at any quote.
+pub fn wide_bound(side: u64) -> u64 {
+    if side == 0 {
+        0
+    } else {
+        MOST
     }
 }
 

@@ -28,6 +28,9 @@ const MOST_SLACK: u32 = 500_000;
 const MOST_LENGTH: u32 = 64;
 const COLLECT_BLOCKS: u32 = 4;
 
+/// Prices of an auction go in steps of so many millionths.
+pub const STEP: u64 = 100;
+
 /// Code of lists that differ in length or are too long.
 pub const NO_LIST: u8 = 22;
 
@@ -176,14 +179,27 @@ pub struct Market {
 
 impl Market {
     /// The auction's price for a side, k blocks after its start, k at most
-    /// the length.
+    /// the length. For side 1 it is rounded up to a multiple of 100, but never
+    /// above hi; for side 0 it is rounded down to one, but never below lo.
+    /// Where such a rounding would pass hi or lo, hi or lo itself is the price.
     #[inline]
     pub fn price(&self, side: u32, k: u32) -> u64 {
-        let step = (self.hi - self.lo) * u64::from(k) / u64::from(self.length.max(1));
+        let price = self.unstepped_price(side, k);
         if side == 1 {
-            self.hi.saturating_sub(step)
+            price.next_multiple_of(STEP).min(self.hi)
         } else {
-            self.lo + step
+            (price / STEP * STEP).max(self.lo)
+        }
+    }
+
+    /// The price before it is rounded to a step.
+    #[inline]
+    pub fn unstepped_price(&self, side: u32, k: u32) -> u64 {
+        let moved = (self.hi - self.lo) * u64::from(k) / u64::from(self.length.max(1));
+        if side == 1 {
+            self.hi.saturating_sub(moved)
+        } else {
+            self.lo + moved
         }
     }
 
@@ -706,7 +722,7 @@ mod tests {
     //! That the books notice what is wrong: a right state, changed in one place.
 
     use super::*;
-    use crate::books::{check, check_call, check_list};
+    use crate::books::{check, check_call, check_list, check_price};
     use crate::lines::read_call;
 
     type Change = fn(&mut Exchange);
@@ -1032,5 +1048,139 @@ mod tests {
         for market in [0, 1, 2, 4] {
             told(&is, &is, Call::Match { market, block: 4 }, answer, text);
         }
+    }
+
+    /// Market 1 is in auction from block 4 on at prices from 1501 to 501, over
+    /// three blocks; ticket 0 buys for 4000 quote, or ticket 1 sells 3000000
+    /// base. Member 2 has some of both tokens.
+    fn stepping(side: u32) -> Exchange {
+        let mut x = Exchange::new();
+        accept(&mut x, &["1,0,0,4000", "1,1,1,3000000", "1,2,0,2000", "1,2,1,1500000"]);
+        accept(&mut x, &["3,0,0,1,0,1501,4000", "3,1,1,1,1,501,3000000"]);
+        accept(&mut x, &["5,1,0,1001,500000,3", ["6,0", "6,1"][side as usize], "7,1,4"]);
+        x
+    }
+
+    #[test]
+    fn wrong_prices_are_told() {
+        let bound = Err("a price breaks a bound");
+        let whole = Err("a price is a whole step off");
+        let other = Err("a price is not the first on a step or at its bound");
+        let round = stepping(1).markets[0];
+        let still = Market { hi: 199, lo: 101, ..round };
+        // side, k and price
+        let right =
+            [(1, 0, 1501), (1, 1, 1200), (1, 3, 600), (0, 0, 501), (0, 1, 800), (0, 3, 1500)];
+        for (side, k, price) in right {
+            assert_eq!(check_price(&round, side, k, price), Ok(()));
+        }
+        for k in 0..=3 {
+            assert_eq!(check_price(&still, 1, k, 199), Ok(()));
+            assert_eq!(check_price(&still, 0, k, 101), Ok(()));
+        }
+        let wrong = [
+            (&round, 1, 0, [(1500, other), (1502, bound), (1600, bound)]),
+            (&round, 1, 1, [(1168, other), (1199, other), (1201, other)]),
+            (&round, 1, 1, [(1100, other), (1268, whole), (1068, whole)]),
+            (&round, 1, 3, [(501, other), (599, other), (601, whole)]),
+            (&round, 0, 0, [(502, other), (500, bound), (600, other)]),
+            (&round, 0, 1, [(834, other), (799, other), (801, other)]),
+            (&round, 0, 1, [(900, other), (934, whole), (734, whole)]),
+            (&round, 0, 3, [(1501, other), (1499, other), (1401, whole)]),
+            (&still, 1, 3, [(101, other), (198, other), (200, bound)]),
+            (&still, 0, 3, [(199, other), (102, other), (100, bound)]),
+        ];
+        for (round, side, k, prices) in wrong {
+            for (price, text) in prices {
+                assert_eq!(check_price(round, side, k, price), text, "{side} {k} {price}");
+            }
+        }
+    }
+
+    /// A bid of member 2 at k 1.
+    fn stepped_bid(side: u32, base: u32, bound: u32) -> Call {
+        Call::Bid { market: 1, member: 2, block: 5, side, base, bound }
+    }
+
+    #[test]
+    fn wrong_quotes_of_bids_are_told() {
+        let off = "a bid a unit of quote off its worth";
+        let gains = "a bid rounded in its maker's favour";
+        // side, base, quote and wrong quotes: side 1 at 1200, and 1168 without
+        // steps; side 0 at 800, and 834
+        let bids = [
+            (1, 1_000_000, 1_200, [(1_199, off), (1_168, off), (1_201, off)]),
+            (1, 1_000_001, 1_201, [(1_200, gains), (1_199, off), (1_202, off)]),
+            (0, 1_000_000, 800, [(801, off), (834, off), (799, off)]),
+            (0, 1_249_999, 999, [(1_000, gains), (998, off), (1_042, off)]),
+        ];
+        for (side, base, quote, wrong) in bids {
+            let was = stepping(side);
+            let call = stepped_bid(side, base, quote);
+            let (is, answer) = accepted(&was, call);
+            assert_eq!(answer, Answer { code: 0, first: base, second: quote });
+            for (second, text) in wrong {
+                told(&was, &is, call, Answer { second, ..answer }, text);
+            }
+            let other = Answer { first: base + 1, ..answer };
+            told(&was, &is, call, other, "a bid answers other base than its own");
+            let missed = if side == 1 { quote - 1 } else { quote + 1 };
+            told(&was, &is, stepped_bid(side, base, missed), answer, "a bid misses its bound");
+        }
+    }
+
+    #[test]
+    fn wrong_moves_of_bids_are_told() {
+        // a unit more from the maker than the answer says
+        let more: [Change; 2] = [
+            |x| {
+                x.balances[2][1] -= 1;
+                x.markets[0].halves[0].got += 1;
+                x.markets[0].holds[1] += 1;
+            },
+            |x| {
+                x.balances[2][0] -= 1;
+                x.markets[0].halves[1].got += 1;
+                x.markets[0].holds[0] += 1;
+            },
+        ];
+        let others: [Change; 2] = [
+            |x| (x.balances[2][0], x.balances[3][0]) = (x.balances[2][0] - 1, 1),
+            |x| (x.balances[2][1], x.balances[15][1]) = (x.balances[2][1] - 1, 1),
+        ];
+        let left = "a bid takes nothing or more than is left";
+        for (side, more) in (0..).zip(more) {
+            let was = stepping(side);
+            let call = stepped_bid(side, 1_000_000, 1_200 * side);
+            let (is, answer) = accepted(&was, call);
+            call_tells(&was, call, "a bid does not move in its round what it answers", &[more]);
+            call_tells(&was, call, "a bid does not move in balances what it answers", &others);
+            let mut poor = was.clone();
+            poor.balances[2] = [799; TOKENS];
+            told(&poor, &is, call, answer, "a bid by a maker who lacks what it costs");
+            let mut sold = was.clone();
+            let half = &mut sold.markets[0].halves[side as usize];
+            half.paid = half.total;
+            told(&sold, &is, call, answer, left);
+
+            let bid = |market, member, block, side| Call::Bid {
+                market,
+                member,
+                block,
+                side,
+                base: 1_000_000,
+                bound: 1_200 * side,
+            };
+            for (market, block) in [(0, 5), (2, 5), (4, 5), (1, 3), (1, 8)] {
+                let call = bid(market, 2, block, side);
+                told(&was, &is, call, answer, "a bid outside an auction");
+            }
+            for (member, side) in [(16, side), (2, 2)] {
+                let call = bid(1, member, 5, side);
+                told(&was, &is, call, answer, "a bid is out of its ranges");
+            }
+        }
+        let was = stepping(0);
+        told(&was, &was, stepped_bid(0, 1_249, 0), Answer::accepted(1_249, 0), left);
     }
 }

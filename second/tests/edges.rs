@@ -1,9 +1,9 @@
 //! Tests of the exchange: the day of the specification with its answers,
 //! every edge that the specification lists, small matches and how they are
-//! rounded, the order of the refusals, what a round leaves behind, members who
-//! leave one, and lists of orders. The books are checked after each call: so is
-//! every match, that enter and leave undo each other, and that a list does what
-//! its orders do singly.
+//! rounded, auction prices on the hundred, the order of the refusals, what a
+//! round leaves behind, members who leave one, and lists of orders. The books
+//! are checked after each call: so is every match and every bid, that enter and
+//! leave undo each other, and that a list does what its orders do singly.
 
 use second::chance::Chance;
 use second::{answer_line, books, read_call, Answer, Exchange, Order, Phase, Place};
@@ -303,13 +303,241 @@ fn shares_of_301() {
 }
 
 #[test]
-fn the_auction_price_falls_to_the_low_bound() {
+fn the_auction_price_falls_to_a_low_bound_on_the_hundred() {
     assert_eq!(day_in_auction().call("8,1,2,14,1,60,165"), (0, 60, 165));
     assert_eq!(day_in_auction().call("8,1,2,14,1,60,164"), (18, 0, 0));
     assert_eq!(day_in_auction().call("8,1,2,24,1,60,135"), (0, 60, 135));
     assert_eq!(day_in_auction().call("8,1,2,24,1,60,134"), (18, 0, 0));
     assert_eq!(day_in_auction().call("8,1,2,25,1,60,165"), (16, 0, 0));
     assert_eq!(day_in_auction().call("8,1,2,14,1,61,4294967295"), (17, 0, 0));
+}
+
+/// Market 1 is in auction from block 4 on, with so much offered on one side;
+/// member 1 has all that there can be of the token that its makers give.
+fn auction(terms: [u32; 3], side: u32, offer: u32) -> House {
+    let [reference, slack, length] = terms;
+    let limit = [2000000000, 1][side as usize];
+    let mut house = House::new();
+    house.calls(&[&format!("1,0,{side},{offer}"), &format!("1,1,{},4294967295", 1 - side)]);
+    house.calls(&[&format!("3,0,0,1,{side},{limit},{offer}")]);
+    house.calls(&[&format!("5,1,0,{reference},{slack},{length}"), "6,0", "7,1,4"]);
+    house
+}
+
+/// A bid for a million base comes to these quotes from k 0 to the auction's
+/// length: its prices. A bound of one unit less, or one more on side 0, is
+/// missed.
+#[track_caller]
+fn prices(terms: [u32; 3], side: u32, prices: &[u32]) {
+    assert_eq!(prices.len(), terms[2] as usize + 1);
+    for (block, &price) in (4..).zip(prices) {
+        let mut house = auction(terms, side, 4294967295);
+        let bid = |bound| format!("8,1,1,{block},{side},1000000,{bound}");
+        house.refused(18, &bid(if side == 1 { price - 1 } else { price + 1 }));
+        assert_eq!(house.call(&bid(price)), (0, 1000000, price), "block {block}");
+    }
+}
+
+/// hi 1501, lo 501; without steps 1501, 1168, 835, 501 and 501, 834, 1167, 1501.
+const OFF_THE_HUNDRED: [u32; 3] = [1001, 500000, 3];
+
+#[test]
+fn prices_on_the_hundred() {
+    prices(OFF_THE_HUNDRED, 1, &[1501, 1200, 900, 600]);
+    prices(OFF_THE_HUNDRED, 0, &[501, 800, 1100, 1500]);
+    // hi 1500, lo 500: those that are multiples stay, at the ends too.
+    prices([1000, 500000, 5], 1, &[1500, 1300, 1100, 900, 700, 500]);
+    prices([1000, 500000, 5], 0, &[500, 700, 900, 1100, 1300, 1500]);
+    // hi 1101, lo 901; without steps 1101, 1068, 1035, 1001, 968, 935, 901 and
+    // 901, 934, 967, 1001, 1034, 1067, 1101.
+    prices([1001, 100000, 6], 1, &[1101, 1100, 1100, 1100, 1000, 1000, 1000]);
+    prices([1001, 100000, 6], 0, &[901, 901, 901, 1000, 1000, 1000, 1100]);
+}
+
+#[test]
+fn prices_a_unit_from_the_hundred() {
+    // hi 301, lo 101, and 201 between: stepped by 99 for side 1, by 1 for side 0.
+    prices([201, 500000, 2], 1, &[301, 300, 200]);
+    prices([201, 500000, 2], 0, &[101, 200, 300]);
+    // hi 399, lo 199, and 299 between: stepped by 1 for side 1, by 99 for side 0.
+    prices([299, 334449, 2], 1, &[399, 300, 200]);
+    prices([299, 334449, 2], 0, &[199, 200, 300]);
+    // hi 299, lo 101, and 200 between.
+    prices([200, 495000, 2], 1, &[299, 200, 200]);
+    prices([200, 495000, 2], 0, &[101, 200, 200]);
+    // hi 298, lo 100, and 199 between: by 99 it comes to just lo.
+    prices([199, 500000, 2], 1, &[298, 200, 100]);
+    prices([199, 500000, 2], 0, &[100, 100, 200]);
+}
+
+#[test]
+fn prices_that_a_step_would_take_past_a_bound() {
+    // hi 1050, lo 950; 1050, 1017, 984, 950 and 950, 983, 1016, 1050 without steps.
+    prices([1000, 50000, 3], 1, &[1050, 1050, 1000, 1000]);
+    prices([1000, 50000, 3], 0, &[950, 950, 1000, 1000]);
+    // hi 200, lo 100: a step to just the bound does not pass it.
+    prices([150, 333334, 3], 1, &[200, 200, 200, 100]);
+    prices([150, 333334, 3], 0, &[100, 100, 100, 200]);
+}
+
+#[test]
+fn auctions_that_stand_still() {
+    // hi 199, lo 101.
+    prices([150, 326667, 3], 1, &[199, 199, 199, 199]);
+    prices([150, 326667, 3], 0, &[101, 101, 101, 101]);
+    // hi 4, lo 2.
+    prices([3, 500000, 3], 1, &[4, 4, 4, 4]);
+    prices([3, 500000, 3], 0, &[2, 2, 2, 2]);
+    // hi as lo, by rounding and without slack.
+    for (terms, price) in [([1, 500000, 2], 1), ([150, 0, 2], 150), ([1234567, 0, 2], 1234567)] {
+        prices(terms, 1, &[price; 3]);
+        prices(terms, 0, &[price; 3]);
+    }
+}
+
+#[test]
+fn large_prices_on_the_hundred() {
+    // hi 1000000998, lo 999999000; 999999999 between.
+    prices([999999999, 1, 2], 1, &[1000000998, 1000000000, 999999000]);
+    prices([999999999, 1, 2], 0, &[999999000, 999999900, 1000000900]);
+    // hi 1500000000, lo 500000000; a 63rd of the way is 15873015.
+    let mut house = auction([1000000000, 500000, 63], 1, 100000);
+    house.refused(18, "8,1,1,5,1,100000,148412699");
+    assert_eq!(house.call("8,1,1,5,1,100000,148412700"), (0, 100000, 148412700));
+    let mut house = auction([1000000000, 500000, 63], 0, 51587300);
+    house.refused(17, "8,1,1,5,0,100001,0");
+    house.refused(18, "8,1,1,5,0,100000,51587301");
+    assert_eq!(house.call("8,1,1,5,0,100000,51587300"), (0, 100000, 51587300));
+}
+
+#[test]
+fn prices_of_many_terms() {
+    for reference in (1..700).chain((701..1_000_000_000).step_by(9_876_543)) {
+        for slack in [0, 1, 3, 333, 50_000, 123_456, 333_333, 500_000] {
+            for length in [1, 2, 7, 64] {
+                let mut house = House::new();
+                house.calls(&[&format!("5,1,0,{reference},{slack},{length}")]);
+                let round = house.exchange.markets()[0];
+                let mut last = [round.lo, round.hi];
+                for k in 0..=length {
+                    let now = [0, 1].map(|side| round.price(side, k));
+                    assert!(now[0] >= last[0] && now[1] <= last[1], "{reference} {slack} {k}");
+                    for side in [0, 1] {
+                        let told = books::check_price(&round, side, k, now[side as usize]);
+                        assert_eq!(told, Ok(()), "{reference} {slack} {length} {side} {k}");
+                    }
+                    last = now;
+                }
+            }
+        }
+    }
+}
+
+#[test]
+fn bids_around_a_stepped_price() {
+    // At 1200 quote for a million base: 1200.0012, and 1199.9988.
+    let mut house = auction(OFF_THE_HUNDRED, 1, 3000000);
+    house.refused(18, "8,1,1,5,1,1000001,1200");
+    assert_eq!(house.call("8,1,1,5,1,1000001,1201"), (0, 1000001, 1201));
+    house.refused(18, "8,1,1,5,1,999999,1199");
+    assert_eq!(house.call("8,1,1,5,1,999999,1200"), (0, 999999, 1200));
+    // 1168 would be enough without the step.
+    house.refused(18, "8,1,1,5,1,1000000,1168");
+    house.refused(17, "8,1,1,5,1,1000001,1168");
+    assert_eq!(house.call("8,1,1,7,1,1000000,600"), (0, 1000000, 600));
+
+    // At 1100 quote for a million base: 1100.0011, and 1099.9989.
+    let mut house = auction(OFF_THE_HUNDRED, 0, 5000);
+    house.refused(18, "8,1,1,6,0,1000001,1101");
+    assert_eq!(house.call("8,1,1,6,0,1000001,1100"), (0, 1000001, 1100));
+    house.refused(18, "8,1,1,6,0,999999,1100");
+    assert_eq!(house.call("8,1,1,6,0,999999,1099"), (0, 999999, 1099));
+    // 1167 would be had without the step.
+    house.refused(18, "8,1,1,6,0,1000000,1167");
+}
+
+#[test]
+fn what_is_left_at_a_stepped_price() {
+    // At 1100 for a million base 1100.9999 is within 1100, and 1101.001 is not;
+    // without the step a million would come to 1167.
+    let mut house = auction(OFF_THE_HUNDRED, 0, 1100);
+    house.refused(17, "8,1,1,6,0,1000910,0");
+    assert_eq!(house.call("8,1,1,6,0,1000909,1100"), (0, 1000909, 1100));
+    assert_eq!(house.call("9,1,6"), (0, 1100, 0));
+    // At 800 for a million base 1249 come to nothing; without the step to 1.
+    let mut house = auction(OFF_THE_HUNDRED, 0, 1);
+    house.refused(17, "8,1,1,5,0,1249,0");
+    house.refused(17, "8,1,1,5,0,2500,0");
+    assert_eq!(house.call("8,1,1,5,0,1250,1"), (0, 1250, 1));
+}
+
+#[test]
+fn a_maker_pays_the_stepped_price() {
+    let mut house = auction(OFF_THE_HUNDRED, 1, 1000000);
+    // 1168 would be enough without the step.
+    house.calls(&["2,1,0,4294967295", "1,2,0,1168"]);
+    house.refused(19, "8,1,2,5,1,1000000,1200");
+    house.calls(&["1,2,0,31"]);
+    house.refused(19, "8,1,2,5,1,1000000,1200");
+    house.calls(&["1,2,0,1"]);
+    assert_eq!(house.call("8,1,2,5,1,1000000,1200"), (0, 1000000, 1200));
+    assert_eq!(house.exchange.balances()[2], [0, 1000000, 0, 0]);
+}
+
+#[test]
+fn a_day_of_sells_at_stepped_prices() {
+    let mut house = House::new();
+    house.calls(&["1,0,0,1001", "1,1,1,3000000", "1,2,0,1800"]);
+    house.calls(&["3,0,0,1,0,1501,1001", "3,1,1,1,1,501,1000000", "3,2,1,1,1,501,2000000"]);
+    house.answers(&[
+        ("5,1,10,1001,500000,3", (0, 1501, 501)),
+        ("6,0", (0, 1001, 0)),
+        ("6,1", (0, 1000000, 0)),
+        ("6,2", (0, 3000000, 0)),
+        ("7,1,14", (0, 1000000, 1001)),
+        ("8,1,2,15,1,1000000,1199", (18, 0, 0)),
+        ("8,1,2,15,1,1000000,1200", (0, 1000000, 1200)),
+        ("8,1,2,16,1,1000000,900", (19, 0, 0)),
+        ("8,1,2,17,1,1000000,599", (18, 0, 0)),
+        ("8,1,2,17,1,1000000,600", (0, 1000000, 600)),
+        ("9,1,17", (0, 1001, 3000000)),
+        ("10,0", (0, 1001, 1000000)),
+        // 1001, 1200 and 600 quote for 3000000 base: a third is 933.67.
+        ("10,1", (0, 1000000, 933)),
+        ("10,2", (0, 2000000, 1867)),
+    ]);
+    assert_eq!(house.phase(1), Phase::Closed);
+    assert_eq!(*house.exchange.tray(), [1, 0, 0, 0]);
+    assert_eq!(house.exchange.balances()[1], [2800, 0, 0, 0]);
+    assert_eq!(house.exchange.balances()[2], [0, 2000000, 0, 0]);
+}
+
+#[test]
+fn a_day_of_buys_at_stepped_prices() {
+    let mut house = House::new();
+    house.calls(&["1,0,0,5000", "1,1,1,1000000", "1,2,1,4000000"]);
+    house.calls(&["3,0,0,1,0,1501,5000", "3,1,1,1,1,501,1000000"]);
+    house.answers(&[
+        ("5,1,10,1001,500000,3", (0, 1501, 501)),
+        ("6,0", (0, 5000, 0)),
+        ("6,1", (0, 1000000, 0)),
+        ("7,1,14", (0, 1000000, 1001)),
+        ("8,1,2,15,0,1000000,801", (18, 0, 0)),
+        ("8,1,2,15,0,1000000,800", (0, 1000000, 800)),
+        ("8,1,2,16,0,1000000,1100", (0, 1000000, 1100)),
+        ("8,1,2,17,0,1000000,1501", (18, 0, 0)),
+        ("8,1,2,17,0,1000000,1500", (0, 1000000, 1500)),
+        // 599 quote are left: 600 are too much.
+        ("8,1,2,17,0,400000,0", (17, 0, 0)),
+        ("8,1,2,17,0,399334,599", (0, 399334, 599)),
+        ("9,1,17", (0, 5000, 1000000)),
+        ("10,0", (0, 5000, 4399334)),
+        ("10,1", (0, 1000000, 1001)),
+    ]);
+    assert_eq!(house.phase(1), Phase::Closed);
+    assert_eq!(*house.exchange.tray(), [0; 4]);
+    assert_eq!(house.exchange.balances()[0], [0, 4399334, 0, 0]);
+    assert_eq!(house.exchange.balances()[2], [3999, 600666, 0, 0]);
 }
 
 #[test]

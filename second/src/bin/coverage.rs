@@ -5,7 +5,7 @@
 //! code that it cannot meet, it ends with status 1 after the counts and says
 //! why on standard error.
 
-use second::engine::{bid_quote, MARKETS, MILLION, MOST, TICKETS};
+use second::engine::{bid_quote, MARKETS, MILLION, MOST, STEP, TICKETS};
 use second::lines::{CODES, FIELDS, KINDS, LINE_MOST, NO_CALL};
 use second::{books, read_call, Answer, Call, Exchange, Market, Phase, Place};
 use std::collections::BTreeMap;
@@ -133,6 +133,43 @@ const BORDERS: &[&str] = &[
     "bid: maker owns a ticket in the round",
     "bid: both sides in one round",
     "bid: after a lower rounding",
+    "bid: side 0 price stepped by 1",
+    "bid: side 1 price stepped by 1",
+    "bid: side 0 price stepped by 99",
+    "bid: side 1 price stepped by 99",
+    "bid: side 0 price stepped by nothing, k between",
+    "bid: side 1 price stepped by nothing, k between",
+    "bid: side 0 price stepped to just lo",
+    "bid: side 1 price stepped to just hi",
+    "bid: side 0 price floored at lo",
+    "bid: side 1 price capped at hi",
+    "bid: side 0 price stands still",
+    "bid: side 1 price stands still",
+    "bid: side 0 price off the hundred, lo as hi",
+    "bid: side 1 price off the hundred, lo as hi",
+    "bid: side 0 price ends at hi",
+    "bid: side 1 price ends at lo",
+    "bid: side 0 price ends below hi",
+    "bid: side 1 price ends above lo",
+    "bid: side 0 price ends 99 below hi",
+    "bid: side 1 price ends 99 above lo",
+    "bid: side 0 price below 100",
+    "bid: side 1 price below 100",
+    "bid: side 0 price above 100000000, stepped",
+    "bid: side 1 price above 100000000, stepped",
+    "bid: side 0 quote moved by the step",
+    "bid: side 1 quote moved by the step",
+    "bid: side 0 quote not moved by the step",
+    "bid: side 1 quote not moved by the step",
+    "bid: side 0 bound met, quote moved by the step",
+    "bid: side 1 bound met, quote moved by the step",
+    "bid: side 0 bound missed only by the step",
+    "bid: side 1 bound missed only by the step",
+    "bid: side 0 bound at the quote without the step refused",
+    "bid: side 1 bound at the quote without the step refused",
+    "bid: side 0 quote 0 only by the step",
+    "bid: side 0 quote left met only by the step",
+    "bid: side 1 balance missed only by the step",
     "settle: k L with some left refused",
     "settle: k L + 1 with some left",
     "settle: nothing left before the end",
@@ -217,6 +254,11 @@ impl Counts {
         if holds {
             *self.borders.entry(name).or_insert(0) += 1;
         }
+    }
+
+    /// The same for a border that each side has, under the side's name.
+    fn add_side(&mut self, holds: bool, side: u32, names: [&'static str; 2]) {
+        self.add_if(holds, names[side as usize]);
     }
 
     fn line(&mut self, line: &[u8], call: Option<Call>, ended: bool) {
@@ -321,6 +363,55 @@ impl Counts {
         self.add_if(base < sells.total, "match: lower rounding kept, some base left");
         self.add_if(base > 1_000, "match: lower rounding kept, base above 1000");
         true
+    }
+
+    /// How the price of an accepted bid was stepped.
+    fn price(&mut self, round: &Market, side: u32, k: u32) {
+        let Market { hi, lo, length, .. } = *round;
+        let price = round.price(side, k);
+        let step = price.abs_diff(round.unstepped_price(side, k));
+        let (first, last) = if side == 1 { (hi, lo) } else { (lo, hi) };
+        let names = ["bid: side 0 price stepped by 1", "bid: side 1 price stepped by 1"];
+        self.add_side(step == 1, side, names);
+        let names = ["bid: side 0 price stepped by 99", "bid: side 1 price stepped by 99"];
+        self.add_side(step == 99, side, names);
+        let to_first = step > 0 && price == first;
+        let names =
+            ["bid: side 0 price stepped to just lo", "bid: side 1 price stepped to just hi"];
+        self.add_side(to_first && first % STEP == 0, side, names);
+        let names = ["bid: side 0 price floored at lo", "bid: side 1 price capped at hi"];
+        self.add_side(to_first && first % STEP != 0, side, names);
+        let names = ["bid: side 0 price below 100", "bid: side 1 price below 100"];
+        self.add_side(price < STEP, side, names);
+        let names = [
+            "bid: side 0 price above 100000000, stepped",
+            "bid: side 1 price above 100000000, stepped",
+        ];
+        self.add_side(step > 0 && price > 100_000_000, side, names);
+        if hi == lo {
+            let names = [
+                "bid: side 0 price off the hundred, lo as hi",
+                "bid: side 1 price off the hundred, lo as hi",
+            ];
+            self.add_side(k > 0 && price % STEP != 0, side, names);
+            return;
+        }
+        let names = [
+            "bid: side 0 price stepped by nothing, k between",
+            "bid: side 1 price stepped by nothing, k between",
+        ];
+        self.add_side(step == 0 && price % STEP == 0 && k > 0 && k < length, side, names);
+        let names = ["bid: side 0 price stands still", "bid: side 1 price stands still"];
+        self.add_side(k > 0 && lo.next_multiple_of(STEP) > hi, side, names);
+        if k == length {
+            let names = ["bid: side 0 price ends at hi", "bid: side 1 price ends at lo"];
+            self.add_side(price == last, side, names);
+            let names = ["bid: side 0 price ends below hi", "bid: side 1 price ends above lo"];
+            self.add_side(price != last, side, names);
+            let names =
+                ["bid: side 0 price ends 99 below hi", "bid: side 1 price ends 99 above lo"];
+            self.add_side(price.abs_diff(last) == 99, side, names);
+        }
     }
 
     /// Looks at a call, its answer, and the exchange before and after it.
@@ -495,11 +586,14 @@ impl Counts {
                 if code == 16 {
                     return;
                 }
-                let quote = bid_quote(side, base, round.price(side, k));
+                let prices = [round.price(side, k), round.unstepped_price(side, k)];
+                let [quote, unstepped] = prices.map(|price| bid_quote(side, base, price));
                 let left = round.halves[side as usize].left();
                 let base = u64::from(base);
                 let bound = u64::from(bound);
                 let balances = was.balances()[member as usize];
+                // Whether it would be taken if prices had no steps.
+                let fits;
                 if side == 0 {
                     let met = quote == bound && taken;
                     self.add_if(met, "bid: side 0 bound met");
@@ -513,6 +607,10 @@ impl Counts {
                     let above = code == 17 && quote == left + 1;
                     self.add_if(above, "bid: side 0 one more than left refused");
                     self.add_if(code == 17 && quote == 0, "bid: side 0 quote 0 refused");
+                    let within = (bound.max(1)..=left).contains(&unstepped);
+                    fits = within && base <= balance;
+                    self.add_if(fits && code == 17, "bid: side 0 quote 0 only by the step");
+                    self.add_if(taken && !fits, "bid: side 0 quote left met only by the step");
                 } else {
                     let met = quote == bound && taken;
                     self.add_if(met, "bid: side 1 bound met");
@@ -526,8 +624,38 @@ impl Counts {
                     self.add_if(above, "bid: side 1 one more than left refused");
                     let above = code == 18 && quote > MOST;
                     self.add_if(above, "bid: side 1 cost above the most refused");
+                    fits = base <= left && unstepped <= bound.min(balances[0]);
+                    let missed = fits && code == 19;
+                    self.add_if(missed, "bid: side 1 balance missed only by the step");
                 }
+                let names = [
+                    "bid: side 0 bound missed only by the step",
+                    "bid: side 1 bound missed only by the step",
+                ];
+                self.add_side(fits && code == 18, side, names);
+                let names = [
+                    "bid: side 0 bound at the quote without the step refused",
+                    "bid: side 1 bound at the quote without the step refused",
+                ];
+                self.add_side(code == 18 && bound == unstepped, side, names);
                 if taken {
+                    self.price(&round, side, k);
+                    let moved = quote != unstepped;
+                    let names = [
+                        "bid: side 0 quote moved by the step",
+                        "bid: side 1 quote moved by the step",
+                    ];
+                    self.add_side(moved, side, names);
+                    let names = [
+                        "bid: side 0 quote not moved by the step",
+                        "bid: side 1 quote not moved by the step",
+                    ];
+                    self.add_side(!moved && prices[0] != prices[1], side, names);
+                    let names = [
+                        "bid: side 0 bound met, quote moved by the step",
+                        "bid: side 1 bound met, quote moved by the step",
+                    ];
+                    self.add_side(moved && bound == quote, side, names);
                     self.add_if(side == 0, "bid: side 0");
                     self.add_if(side == 1, "bid: side 1");
                     self.add_if(k == 0, "bid: k 0");

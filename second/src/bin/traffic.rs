@@ -1,14 +1,16 @@
 //! Prints traffic for comparison runs: `traffic SEED LINES` prints LINES
 //! lines, the same ones for the same seed. About half of them are accepted
 //! calls that drive whole rounds in the three markets, some of them small ones
-//! whose match is rounded at a border; the others are calls to be refused, for
-//! every kind and code, and lines that are no call, of every sort. The exchange
-//! is worked along, so that each line can be aimed at its state. `traffic SEED
-//! LINES FILE` prints traffic that is to follow the lines of a file.
+//! whose match is rounded at a border, and some whose auction has its price
+//! stepped at one; the others are calls to be refused, for every kind and code,
+//! and lines that are no call, of every sort. The exchange is worked along, so
+//! that each line can be aimed at its state. `traffic SEED LINES FILE` prints
+//! traffic that is to follow the lines of a file.
 
 use second::chance::Chance;
-use second::drafts::{offered_token, padded, wide_limit, Draft, Drafts, Season, SORTS};
-use second::engine::{bid_quote, MILLION, MOST};
+use second::drafts::{offered_token, padded, wide_bound, wide_limit};
+use second::drafts::{Draft, Drafts, Season, SORTS};
+use second::engine::{MILLION, MOST, STEP};
 use second::lines::{CODES, KINDS, LINE_MOST, NO_CALL};
 use second::{read_call, Exchange, Market, Phase, Place};
 use std::io::{self, BufWriter, Write};
@@ -63,6 +65,45 @@ struct Terms {
     slack: u64,
 }
 
+/// Where the price of an aimed auction stands at a block, before it is
+/// stepped. Side 1 starts from hi and is stepped upwards; side 0 starts from lo
+/// and is stepped downwards.
+#[derive(Clone, Copy)]
+enum Stand {
+    /// So far from the next hundred, before the end.
+    Between(u64),
+    /// So far from the next hundred, at the end.
+    End(u64),
+    /// The next hundred is the bound where it started.
+    ToStart,
+    /// The next hundred is past the bound where it started.
+    PastStart,
+    /// The same at every block: no hundred lies from lo to hi.
+    Still,
+}
+
+/// The stands, which take turns. Their number is odd, as the sides take turns
+/// too.
+const STANDS: [Stand; 9] = [
+    Stand::Between(1),
+    Stand::Still,
+    Stand::End(99),
+    Stand::Between(0),
+    Stand::PastStart,
+    Stand::End(0),
+    Stand::Between(99),
+    Stand::ToStart,
+    Stand::End(1),
+];
+
+/// The terms of an aimed auction, and the k at which its price has its stand.
+struct Steps {
+    reference: u64,
+    slack: u64,
+    length: u64,
+    k: u64,
+}
+
 struct Traffic<W: Write> {
     drafts: Drafts,
     output: W,
@@ -79,6 +120,8 @@ struct Traffic<W: Write> {
     long_at: u64,
     /// Small rounds so far.
     small_rounds: usize,
+    /// Auctions that came to their aim so far.
+    step_rounds: usize,
     /// Seasons begun so far; they take turns.
     seasons: usize,
     season_left: u64,
@@ -107,6 +150,7 @@ impl<W: Write> Traffic<W> {
         let long_at = lines.saturating_sub(chance.below(10_000));
         let sort = chance.below(SORTS as u64) as usize;
         let small_rounds = chance.below(AIMS.len() as u64) as usize;
+        let step_rounds = chance.below(2 * STANDS.len() as u64) as usize;
         Traffic {
             drafts: Drafts::new(chance, exchange, sort),
             output,
@@ -117,6 +161,7 @@ impl<W: Write> Traffic<W> {
             jump_to,
             long_at,
             small_rounds,
+            step_rounds,
             seasons,
             season_left: 1_000,
             met: [[0; 21]; KINDS + 1],
@@ -133,7 +178,7 @@ impl<W: Write> Traffic<W> {
                 self.long_at = 0;
                 let line = self.long_line();
                 self.put(&line);
-            } else if self.drafts.chance.below(100) < 51 {
+            } else if self.drafts.chance.below(100) < 49 {
                 self.right_step();
             } else {
                 self.wrong_step();
@@ -242,19 +287,24 @@ impl<W: Write> Traffic<W> {
     /// Places an order, after a deposit if no member has the amount, and gives
     /// its ticket.
     fn place_order(&mut self, market: u64, side: u64, limit: u64, amount: u64) -> Option<u64> {
-        let token = offered_token(market, side);
         let ticket = self.drafts.find_ticket(|_, t| t.place == Place::Free)?;
-        let member = match self.drafts.find_member(token, amount) {
-            Some(member) => member,
-            None if amount > self.drafts.room(token) => return None,
-            None => {
-                let member = self.drafts.chance.below(16);
-                self.say(Draft::new(1, &[member, token, amount]));
-                member
-            }
-        };
+        let member = self.payer(offered_token(market, side), amount)?;
         self.say(Draft::new(3, &[ticket, member, market, side, limit, amount]));
         Some(ticket)
+    }
+
+    /// A member with at least so much of a token, after a deposit if none has
+    /// it.
+    fn payer(&mut self, token: u64, amount: u64) -> Option<u64> {
+        if let Some(member) = self.drafts.find_member(token, amount) {
+            return Some(member);
+        }
+        if amount > self.drafts.room(token) {
+            return None;
+        }
+        let member = self.drafts.chance.below(16);
+        self.say(Draft::new(1, &[member, token, amount]));
+        Some(member)
     }
 
     /// Up to so many bids, then the settle after the auction's end and the
@@ -286,17 +336,8 @@ impl<W: Write> Traffic<W> {
         let terms = self.small_terms(aim);
         let length = self.drafts.length();
         self.say(Draft::new(5, &[market, block, terms.reference, terms.slack, length]));
-        let Market { hi, lo, .. } = self.drafts.market(market);
-        let [buys, sells] = self.small_totals(&terms);
-        for (side, total, edge) in [(0, buys, hi), (1, sells, lo)] {
-            for amount in self.parts(total) {
-                let limit = self.drafts.chance.pick(&[edge, edge, wide_limit(side)]);
-                let ticket = self.place_order(market, side, limit, amount)?;
-                self.say(Draft::new(6, &[ticket]));
-            }
-        }
-        let block = self.drafts.match_block(market) + self.drafts.some_blocks();
-        self.say(Draft::new(7, &[market, block]));
+        let totals = self.small_totals(&terms);
+        self.enter_and_match(market, totals)?;
         if self.drafts.chance.once_in(2) {
             self.end_auction(market, 1);
         }
@@ -354,13 +395,211 @@ impl<W: Write> Traffic<W> {
         }
     }
 
-    /// An amount as one part or two.
+    /// Orders of these totals enter a market's round, many with its bounds for
+    /// their limits; then its match. Nothing if lines, tickets or amounts are
+    /// wanting.
+    fn enter_and_match(&mut self, market: u64, totals: [u64; 2]) -> Option<()> {
+        let Market { hi, lo, .. } = self.drafts.market(market);
+        for (side, total, edge) in [(0, totals[0], hi), (1, totals[1], lo)] {
+            for amount in self.parts(total) {
+                let limit = self.drafts.chance.pick(&[edge, edge, wide_limit(side)]);
+                let ticket = self.place_order(market, side, limit, amount)?;
+                self.say(Draft::new(6, &[ticket]));
+            }
+        }
+        let block = self.drafts.match_block(market) + self.drafts.some_blocks();
+        self.say(Draft::new(7, &[market, block]));
+        (self.drafts.market(market).phase == Phase::Auction).then_some(())
+    }
+
+    /// An amount as one part or two, or as none where it is 0.
     fn parts(&mut self, amount: u64) -> Vec<u64> {
+        if amount == 0 {
+            return Vec::new();
+        }
         if amount == 1 || !self.drafts.chance.once_in(3) {
             return vec![amount];
         }
         let part = self.drafts.chance.between(1, amount - 1);
         vec![part, amount - part]
+    }
+
+    /// A round whose auction is aimed at a stand of its price, for one side, and
+    /// bids at that block and at others. Nothing if blocks, lines, tickets or
+    /// amounts are wanting.
+    fn step_round(&mut self, market: u64) -> Option<()> {
+        let block = self.drafts.last() + self.drafts.some_blocks();
+        if block + 100 > MOST {
+            return None;
+        }
+        let stand = STANDS[self.step_rounds % STANDS.len()];
+        let side = self.step_rounds as u64 % 2;
+        let Steps { reference, slack, length, k } = self.step_terms(stand, side);
+        self.say(Draft::new(5, &[market, block, reference, slack, length]));
+        let totals = self.step_totals(reference, side);
+        self.enter_and_match(market, totals)?;
+        let start = u64::from(self.drafts.market(market).start);
+        for at in 0..=length {
+            if at == k {
+                self.aimed_bids(market, side, start + at)?;
+                self.step_rounds += 1;
+            } else if at == 0 || at == length || self.drafts.chance.once_in(length / 2) {
+                self.bounded_bids(market, side, start + at, 1)?;
+            }
+        }
+        if self.drafts.chance.once_in(2) {
+            self.last_bids(market, side, start + length)?;
+        }
+        self.end_auction(market, 0);
+        Some(())
+    }
+
+    /// Terms at which the price of a side comes to a stand, but for a few where
+    /// a large reference has no such bounds.
+    fn step_terms(&mut self, stand: Stand, side: u64) -> Steps {
+        let length = self.drafts.length().max(2);
+        let c = &mut self.drafts.chance;
+        // From the reference to either bound, and the least price to start from.
+        let (distance, price) = match stand {
+            Stand::Between(_) | Stand::End(_) => match c.below(4) {
+                0 => {
+                    let reference = c.between(100_000_000, 900_000_000);
+                    (reference * c.between(1, 5) / MILLION, reference)
+                }
+                1 => (c.between(99, 5_000), c.any_size(900_000)),
+                _ => (c.between(99, 300), c.between(0, 1_000)),
+            },
+            _ => {
+                let distance = c.pick(&[5, 49]);
+                let price = c.pick(&[0, 0, 200, 900_000]);
+                (c.between(1, distance), c.below(price))
+            }
+        };
+        let range = 2 * distance;
+        // The first k at which the price has moved so far.
+        let first = |moved: u64| (moved * length).div_ceil(range);
+        let k = match stand {
+            Stand::Between(step) => c.between(first(step.max(1)), length - 1),
+            Stand::End(_) => length,
+            _ => c.between(first(1), length),
+        };
+        let moved = range * k / length;
+        // How far the price starts past a hundred, in its direction.
+        let past = match stand {
+            Stand::Between(step) | Stand::End(step) => moved - step,
+            Stand::ToStart => 0,
+            Stand::PastStart => c.between(moved + 1, range.max(moved + 1)),
+            Stand::Still => c.between(range + 1, STEP - 1),
+        };
+        // A hundred at which neither bound is more than half the reference off.
+        let least = if side == 1 { (3 * distance).saturating_sub(past) } else { distance + past };
+        let hundred = least.max(price).next_multiple_of(STEP);
+        let reference =
+            if side == 1 { hundred + past - distance } else { hundred - past + distance };
+        Steps { reference, slack: (distance * MILLION).div_ceil(reference), length, k }
+    }
+
+    /// Totals for an aimed auction of a side, so much that a step is worth a
+    /// unit of quote; half of the time the other side offers a tenth.
+    fn step_totals(&mut self, reference: u64, side: u64) -> [u64; 2] {
+        let c = &mut self.drafts.chance;
+        let base = if reference > MILLION {
+            c.between(20_000, 200_000)
+        } else {
+            c.between(2_000_000, 20_000_000)
+        };
+        let mut totals = [base * reference / MILLION + 1, base];
+        let other = &mut totals[1 - side as usize];
+        *other = if c.once_in(2) { *other / 10 } else { 0 };
+        totals
+    }
+
+    /// Bids around the borders of a stepped price.
+    fn aimed_bids(&mut self, market: u64, side: u64, block: u64) -> Option<()> {
+        self.bounded_bids(market, side, block, 4)?;
+        let mut draft = self.part_bid(market, side, block)?;
+        if side == 1 || self.drafts.chance.once_in(2) {
+            self.lacking(draft);
+        }
+        // One unit too little to take anything, and just enough.
+        let (low, _) = self.drafts.bid_range(market, side, block);
+        if low > 1 {
+            for base in [low - 1, low] {
+                draft.f[4] = base;
+                self.say(draft);
+            }
+        }
+        Some(())
+    }
+
+    /// Bids for all that a side has left: one unit too much, and just that.
+    fn last_bids(&mut self, market: u64, side: u64, block: u64) -> Option<()> {
+        let (low, high) = self.drafts.bid_range(market, side, block);
+        if low > high || high >= MOST {
+            return None;
+        }
+        let mut draft = self.paid_bid(market, side, block, high, 1)?;
+        for base in [high + 1, high] {
+            draft.f[4] = base;
+            self.say(draft);
+        }
+        Some(())
+    }
+
+    /// Bids, so many of four, whose bound is the quote, a unit to either side of
+    /// it, and the quote that it would be if prices had no steps.
+    fn bounded_bids(&mut self, market: u64, side: u64, block: u64, count: usize) -> Option<()> {
+        let mut draft = self.part_bid(market, side, block)?;
+        let [quote, unstepped] = self.drafts.bid_quotes(&draft);
+        let bounds = [quote, quote.saturating_sub(1), quote + 1, unstepped];
+        let first = self.drafts.chance.below(4) as usize;
+        for bound in bounds.into_iter().cycle().skip(first).take(count) {
+            draft.f[5] = bound.min(MOST);
+            self.say(draft);
+        }
+        Some(())
+    }
+
+    /// A bid for a part of what a side has left, which may come four times.
+    fn part_bid(&mut self, market: u64, side: u64, block: u64) -> Option<Draft> {
+        let (_, high) = self.drafts.bid_range(market, side, block);
+        let base = self.drafts.chance.between(high / 12, high / 4).max(1);
+        self.paid_bid(market, side, block, base, 4)
+    }
+
+    /// A bid by a member who can pay it so many times, after a deposit if there
+    /// is none.
+    fn paid_bid(
+        &mut self,
+        market: u64,
+        side: u64,
+        block: u64,
+        base: u64,
+        times: u64,
+    ) -> Option<Draft> {
+        let mut draft = Draft::new(8, &[market, 0, block, side, base, wide_bound(side)]);
+        let (token, given) = self.drafts.bid_given(&draft);
+        draft.f[1] = self.payer(token, times * given)?;
+        Some(draft)
+    }
+
+    /// A maker who lacks one unit for a bid, then has just enough. False if no
+    /// member is so poor, or there is no room for what is lacking.
+    fn lacking(&mut self, mut draft: Draft) -> bool {
+        let (token, given) = self.drafts.bid_given(&draft);
+        let Some(member) = self.drafts.find_poor(token, given) else { return false };
+        let lack = given - self.drafts.balance(member, token);
+        if lack > self.drafts.room(token) {
+            return false;
+        }
+        draft.f[1] = member;
+        if lack > 1 {
+            self.say(Draft::new(1, &[member, token, lack - 1]));
+        }
+        self.say(draft);
+        self.say(Draft::new(1, &[member, token, 1]));
+        self.say(draft);
+        true
     }
 
     // Calls that are right now.
@@ -373,6 +612,9 @@ impl<W: Write> Traffic<W> {
         let market = self.drafts.chance.pick(&self.drafts.markets);
         let closed = self.drafts.market(market).phase == Phase::Closed;
         if closed && self.drafts.chance.once_in(10) && self.small_round(market).is_some() {
+            return;
+        }
+        if closed && self.drafts.chance.once_in(10) && self.step_round(market).is_some() {
             return;
         }
         if let Some(draft) = self.drafts.right(market) {
@@ -437,7 +679,7 @@ impl<W: Write> Traffic<W> {
                 draft.f[2] = end + 1;
                 self.say(draft);
                 draft.f[2] = end;
-                draft.f[5] = if draft.f[3] == 1 { MOST } else { 0 };
+                draft.f[5] = wide_bound(draft.f[3]);
                 self.say(draft);
                 self.say(Draft::new(9, &[market, end]));
                 if self.drafts.chance.once_in(2) {
@@ -453,29 +695,7 @@ impl<W: Write> Traffic<W> {
                 let Some(draft) = self.drafts.bid_draft(market) else {
                     return false;
                 };
-                let [_, _, block, side, base, _] = draft.f;
-                let round = self.drafts.market(market);
-                let price = round.price(side as u32, block as u32 - round.start);
-                let (token, given) =
-                    if side == 1 { (0, bid_quote(1, base as u32, price)) } else { (market, base) };
-                let first = self.drafts.chance.below(16);
-                let poor = (0..16)
-                    .map(|i| (first + i) % 16)
-                    .find(|&i| self.drafts.balance(i, token) < given);
-                let Some(member) = poor else { return false };
-                let lack = given - self.drafts.balance(member, token);
-                if lack > self.drafts.room(token) {
-                    return false;
-                }
-                let mut draft = draft;
-                draft.f[1] = member;
-                if lack > 1 {
-                    self.say(Draft::new(1, &[member, token, lack - 1]));
-                }
-                self.say(draft);
-                self.say(Draft::new(1, &[member, token, 1]));
-                self.say(draft);
-                true
+                self.lacking(draft)
             }
             // A bound missed by one, then met exactly.
             4 => {
@@ -485,14 +705,11 @@ impl<W: Write> Traffic<W> {
                 let Some(mut draft) = self.drafts.bid_draft(market) else {
                     return false;
                 };
-                let [_, _, block, side, base, _] = draft.f;
-                let round = self.drafts.market(market);
-                let price = round.price(side as u32, block as u32 - round.start);
-                let quote = bid_quote(side as u32, base as u32, price);
+                let [quote, _] = self.drafts.bid_quotes(&draft);
                 if quote >= MOST {
                     return false;
                 }
-                draft.f[5] = if side == 1 { quote - 1 } else { quote + 1 };
+                draft.f[5] = if draft.f[3] == 1 { quote - 1 } else { quote + 1 };
                 self.say(draft);
                 draft.f[5] = quote;
                 self.say(draft);
