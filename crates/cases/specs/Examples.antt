@@ -213,7 +213,7 @@ baseSold =
     ∷ refused (Bid 1 2 13 1 60 500) 12
     ∷ refused (Bid 1 2 22 1 60 500) 16
     ∷ refused (Bid 1 2 19 1 61 500) 17
-    -- k 5: 500,000 × 5 / 7 is 357,142.86, the price 2,392,858; 60 × 2.392858 is 143.57, up 144
+    -- k 5: 500,000 × 5 / 7 is 357,142.86; 2,392,858, up to 2,392,900; 60 × 2.3929 is 143.574, up 144
     ∷ refused (Bid 1 2 19 1 60 143) 18
     -- member 3 has base, and no quote
     ∷ refused (Bid 1 3 19 1 60 144) 19
@@ -231,7 +231,7 @@ baseSold =
     ∷ accepted (Bid 1 2 14 1 10 28) 10 28
     ∷ balance-is 2 0 472
     ∷ balance-is 2 1 10
-    -- k 3: 500,000 × 3 / 7 is 214,285.7, the price 2,535,715; 28 × 2.535715 is 71.00002, up 72
+    -- k 3: 500,000 × 3 / 7 is 214,285.7; 2,535,715, up to 2,535,800; 28 × 2.5358 is 71.0024, up 72
     ∷ refused (Bid 1 2 17 1 28 71) 18
     ∷ accepted (Bid 1 2 17 1 28 500) 28 72
     -- k 7 = L: 10 × 2.25 is 22.5, up 23; the maker has a ticket in the round
@@ -310,7 +310,7 @@ quoteSold =
     ∷ accepted (Bid 2 2 104 0 10 22) 10 22
     ∷ balance-is 2 0 22
     ∷ balance-is 2 2 290
-    -- k 3: 500,000 × 3 / 7 is 214,285.7, the price 2,464,285; 28 × 2.464285 is 68.99998, down 68
+    -- k 3: 500,000 × 3 / 7 is 214,285.7; 2,464,285, down to 2,464,200; 28 × 2.4642 is 68.9976, down 68
     ∷ refused (Bid 2 2 107 0 28 69) 18
     ∷ accepted (Bid 2 2 107 0 28 68) 28 68
     -- k 7 = L: 10 × 2.75 is 27.5, down 27
@@ -809,7 +809,7 @@ pricesStepped =
     ∷ refused (Bid 1 3 5 1 100000 119) 18
     ∷ refused (Bid 1 4 5 1 100000 500) 19
     ∷ accepted (Bid 1 3 5 1 100000 120) 100000 120
-    -- 800, where it gave 834; 1,200 base give 0.96, down 0, where it gave 1.0008
+    -- 800, where document 01's price gave 834; 1,200 base give 0.96, down 0, where it gave 1.0008, down 1
     ∷ refused (Bid 2 3 5 0 1000000 801) 18
     ∷ refused (Bid 2 3 5 0 1200 0) 17
     ∷ accepted (Bid 2 3 5 0 1000000 800) 1000000 800
@@ -873,7 +873,7 @@ auctionsStill =
     -- k 5: 1.000004, up 2, and 0.7, down 0, where document 01's price of 3 came to 1 both times
     ∷ refused (Bid 1 3 9 1 250001 1) 18
     ∷ refused (Bid 2 3 9 0 333334 0) 17
-    -- k 10 = L: 2, where its price of 2 came to 1; 1, where its price of 4 came to 2
+    -- k 10 = L: 500,000 base cost 2, where document 01's price of 2 asked 1; and bring 1, where its price of 4 gave 2
     ∷ refused (Bid 1 3 14 1 500000 1) 18
     ∷ accepted (Bid 1 3 14 1 500000 9) 500000 2
     ∷ refused (Bid 2 3 14 0 500000 2) 18

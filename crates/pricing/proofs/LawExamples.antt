@@ -11,14 +11,20 @@ use Rattle.pricing.specs.Prices.{lowerQuote, matchBase, matchQuote, trad
 use Rattle.pricing.specs.Laws.{SteppedUp, SteppedDown, PricesWithin, PricesStepped}
 use Rattle.pricing.specs.LawExamples.{threeOffers, LawsUsed, LawsMet, LawsRefused}
 
--- 1,168 stepped up, and 834 stepped down
-sell-step : SteppedUp 1501 1168 1200
-sell-step =
-    record { reaches = omega arith; within = omega arith; multiple = inl (12, refl); least = λ m l. omega (arith, l); close = omega arith }
+-- the nearest multiple of 100 on the way to the bound, and the bound where none is before it
+up-to : (hi u m : ℕ) → u ≤ m * 100 → m * 100 ≤ hi → m * 100 < u + 100 → SteppedUp hi u (m * 100)
+up-to hi u m a b c = record { reaches = a; within = b; multiple = inl (m, refl); least = λ n l. omega (arith, l, c); close = c }
 
-buy-step : SteppedDown 501 834 800
-buy-step =
-    record { reaches = omega arith; within = omega arith; multiple = inl (8, refl); greatest = λ m l. omega (arith, l); close = omega arith }
+up-all : (hi u m : ℕ) → u ≤ hi → hi < u + 100 → m * 100 < u → hi ≤ (m + 1) * 100 → SteppedUp hi u hi
+up-all hi u m a c d b =
+    record { reaches = a; within = omega arith; multiple = inr refl; least = λ n l. omega (arith, l, d, b); close = c }
+
+down-to : (lo u m : ℕ) → m * 100 ≤ u → lo ≤ m * 100 → u < m * 100 + 100 → SteppedDown lo u (m * 100)
+down-to lo u m a b c = record { reaches = a; within = b; multiple = inl (m, refl); greatest = λ n l. omega (arith, l, c); close = c }
+
+down-all : (lo u m : ℕ) → lo ≤ u → u < lo + 100 → u < (m + 1) * 100 → m * 100 ≤ lo → SteppedDown lo u lo
+down-all lo u m a c d b =
+    record { reaches = a; within = omega arith; multiple = inr refl; greatest = λ n l. omega (arith, l, d, b); close = c }
 
 -- between n hundred and the next there is no multiple of 100, so what is one or b is b
 off-hundred : (p b n : ℕ) → n * 100 < p → p < (n + 1) * 100 → ((m : ℕ) × (p ≡ m * 100)) ⊎ (p ≡ b) → p ≡ b
@@ -66,8 +72,13 @@ laws-used =
       sells-kept = λ w hi lo k len m e. let s = w Sell hi lo k len .0 in omega (arith, e, s .reaches, s .least m (omega (arith, e)));
       buys-kept = λ w hi lo k len m e. let s = w Buy hi lo k len .0 in omega (arith, e, s .reaches, s .greatest m (omega (arith, e)));
       stands-still = stands-still;
-      sell-alone = λ w. sym (w Sell 1501 501 1 3 .1 1200 sell-step);
-      buy-alone = λ w. sym (w Buy 1501 501 1 3 .1 800 buy-step);
+      sell-alone = λ w. sym (w Sell 1501 501 1 3 .1 1200 (up-to 1501 1168 12 (omega arith) (omega arith) (omega arith)));
+      buy-alone = λ w. sym (w Buy 1501 501 1 3 .1 800 (down-to 501 834 8 (omega arith) (omega arith) (omega arith)));
+      starts-any = λ w hi lo len. w hi lo len;
+      sells-move = λ w j k l. w Sell 1501 501 j k 3 (omega arith) l;
+      buys-move = λ w j k l. w Buy 1501 501 j k 3 (omega arith) l;
+      low-three = λ w k l e. w 1500 500 k 3 (omega arith) (omega arith) l e;
+      low-near = λ w lo k l e. w (lo + 1) lo k 1 (omega arith) (omega arith) l e;
       ends-any = λ w len l. let e = w 1501 501 len (omega arith) l in (e .0, e .1, e .2, omega (arith, e .3));
       ends-one = λ w hi lo l. let e = w hi lo 1 l (omega arith) in (e .1, e .3);
       ends-same = λ w len l. let e = w 5 5 len (omega arith) l in (e .0, e .2);
@@ -94,16 +105,16 @@ laws-met =
       sells-level = omega arith;
       buys-rate = omega arith;
       sells-rate = omega arith;
-      up-most = record { reaches = omega arith; within = omega arith; multiple = inl (12, refl); least = λ m l. omega (arith, l); close = omega arith };
-      up-one = record { reaches = omega arith; within = omega arith; multiple = inl (12, refl); least = λ m l. omega (arith, l); close = omega arith };
-      up-none = record { reaches = omega arith; within = omega arith; multiple = inl (12, refl); least = λ m l. omega (arith, l); close = omega arith };
-      up-capped = record { reaches = omega arith; within = omega arith; multiple = inr refl; least = λ m l. omega (arith, l); close = omega arith };
-      up-bound = record { reaches = omega arith; within = omega arith; multiple = inr refl; least = λ m l. omega (arith, l); close = omega arith };
-      down-most = record { reaches = omega arith; within = omega arith; multiple = inl (8, refl); greatest = λ m l. omega (arith, l); close = omega arith };
-      down-one = record { reaches = omega arith; within = omega arith; multiple = inl (8, refl); greatest = λ m l. omega (arith, l); close = omega arith };
-      down-none = record { reaches = omega arith; within = omega arith; multiple = inl (8, refl); greatest = λ m l. omega (arith, l); close = omega arith };
-      down-floored = record { reaches = omega arith; within = omega arith; multiple = inr refl; greatest = λ m l. omega (arith, l); close = omega arith };
-      down-bound = record { reaches = omega arith; within = omega arith; multiple = inr refl; greatest = λ m l. omega (arith, l); close = omega arith };
+      up-most = up-to 1501 1101 12 (omega arith) (omega arith) (omega arith);
+      up-one = up-to 1501 1199 12 (omega arith) (omega arith) (omega arith);
+      up-none = up-to 1501 1200 12 (omega arith) (omega arith) (omega arith);
+      up-capped = up-all 1199 1101 11 (omega arith) (omega arith) (omega arith) (omega arith);
+      up-bound = up-all 1501 1501 15 (omega arith) (omega arith) (omega arith) (omega arith);
+      down-most = down-to 501 899 8 (omega arith) (omega arith) (omega arith);
+      down-one = down-to 501 801 8 (omega arith) (omega arith) (omega arith);
+      down-none = down-to 501 800 8 (omega arith) (omega arith) (omega arith);
+      down-floored = down-all 801 899 8 (omega arith) (omega arith) (omega arith) (omega arith);
+      down-bound = down-all 501 501 5 (omega arith) (omega arith) (omega arith) (omega arith);
       trade-fits = record { base-fits = omega arith; quote-fits = omega arith; not-above = omega arith; not-below = omega arith };
       near-above = record { above = omega arith; below = omega arith };
       near-below = record { above = omega arith; below = omega arith };

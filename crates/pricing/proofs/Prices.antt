@@ -6,7 +6,7 @@ use native.Mathlib.Nat.{eq-or-lt-of-le, le-antisymm, le-of-mul-le-mul-left, mul-
 use native.Mathlib.Omega.{arith}
 use lib.Dec.{lit<}
 use Rattle.units.specs.Ranges.{highestBound, highestReference, highestSlack}
-use Rattle.pricing.specs.Laws.{BoundsEven, Moves, PricesEnd, PricesStepped, PricesWithin, Stepped, SteppedDown, SteppedUp}
+use Rattle.pricing.specs.Laws.{BoundsEven, LowAtEnd, Moves, PricesEnd, PricesMove, PricesStart, PricesStepped, PricesWithin, Stepped, SteppedDown, SteppedUp}
 use Rattle.pricing.specs.Prices.{auctionPrice, highBound, linearPrice, lowBound, priceStep, steppedDown, steppedUp}
 use Rattle.pricing.specs.declared.Side.{Side}
 use Rattle.pricing.specs.declared.Side.the-variants.{Buy, Sell}
@@ -175,7 +175,7 @@ price-ends hi lo len b h =
     )
 
 -- at the first block the sells' price is hi, and the buys' lo
-pub price-starts : (hi lo len : ℕ) → (auctionPrice Sell hi lo 0 len ≡ hi) × (auctionPrice Buy hi lo 0 len ≡ lo)
+pub price-starts : PricesStart
 price-starts hi lo len =
     let e : down ((hi - lo) * 0) len ≡ 0 = rw mul-zero (down-none len) in
     let sell = stepped Sell hi lo 0 len in
@@ -183,7 +183,7 @@ price-starts hi lo len =
     (omega (arith, e, sell .reaches, sell .within), omega (arith, e, buy .reaches, buy .within))
 
 -- the sells' price is lo at the last block only
-pub sell-low-only-at-end : (hi lo k len : ℕ) → lo < hi → 0 < len → k ≤ len → auctionPrice Sell hi lo k len ≡ lo → k ≡ len
+pub sell-low-only-at-end : LowAtEnd
 sell-low-only-at-end hi lo k len b h g e =
     let d : ℕ = hi - lo in
     let s = stepped Sell hi lo k len in
@@ -192,6 +192,6 @@ sell-low-only-at-end hi lo k len b h g e =
     le-antisymm g (le-of-mul-le-mul-left low (omega arith))
 
 -- the buys' price does not fall, and the sells' does not rise
-pub price-moves : (x : Side) (hi lo j k len : ℕ) → 0 < len → j ≤ k → Moves x (auctionPrice x hi lo j len) (auctionPrice x hi lo k len)
+pub price-moves : PricesMove
 price-moves x hi lo j k len h g =
     stepped-moves x hi lo _ _ _ _ (linear-moves x hi lo j k len h g) (stepped x hi lo j len) (stepped x hi lo k len)

@@ -138,8 +138,8 @@ tradeCases =
 abbrev pub linearPrices : Side → ℕ → ℕ → List ℕ
 linearPrices x hi lo = map (λ k. linearPrice x hi lo k 3) (0 ∷ 1 ∷ 2 ∷ 3 ∷ [])
 
-abbrev pub prices : Side → ℕ → ℕ → List ℕ
-prices x hi lo = map (λ k. auctionPrice x hi lo k 3) (0 ∷ 1 ∷ 2 ∷ 3 ∷ [])
+abbrev pub steppedPrices : Side → ℕ → ℕ → List ℕ
+steppedPrices x hi lo = map (λ k. auctionPrice x hi lo k 3) (0 ∷ 1 ∷ 2 ∷ 3 ∷ [])
 
 -- the price half way, at block 1 of 2
 abbrev pub halfWay : Side → ℕ → ℕ → ℕ
@@ -161,15 +161,15 @@ priceCases =
     )
     -- bounds off the hundred: side 1 ends 99 above lo, side 0 1 below hi
     ∷ (linearPrices Sell 1501 501, 1501 ∷ 1168 ∷ 835 ∷ 501 ∷ [])
-    ∷ (prices Sell 1501 501, 1501 ∷ 1200 ∷ 900 ∷ 600 ∷ [])
+    ∷ (steppedPrices Sell 1501 501, 1501 ∷ 1200 ∷ 900 ∷ 600 ∷ [])
     ∷ (linearPrices Buy 1501 501, 501 ∷ 834 ∷ 1167 ∷ 1501 ∷ [])
-    ∷ (prices Buy 1501 501, 501 ∷ 800 ∷ 1100 ∷ 1500 ∷ [])
+    ∷ (steppedPrices Buy 1501 501, 501 ∷ 800 ∷ 1100 ∷ 1500 ∷ [])
     -- the other way round: 1 above lo, 99 below hi
-    ∷ (prices Sell 1599 599, 1599 ∷ 1300 ∷ 1000 ∷ 600 ∷ [])
-    ∷ (prices Buy 1599 599, 599 ∷ 900 ∷ 1200 ∷ 1500 ∷ [])
+    ∷ (steppedPrices Sell 1599 599, 1599 ∷ 1300 ∷ 1000 ∷ 600 ∷ [])
+    ∷ (steppedPrices Buy 1599 599, 599 ∷ 900 ∷ 1200 ∷ 1500 ∷ [])
     -- bounds on it: at both ends the bounds themselves
-    ∷ (prices Sell 1500 500, 1500 ∷ 1200 ∷ 900 ∷ 500 ∷ [])
-    ∷ (prices Buy 1500 500, 500 ∷ 800 ∷ 1100 ∷ 1500 ∷ [])
+    ∷ (steppedPrices Sell 1500 500, 1500 ∷ 1200 ∷ 900 ∷ 500 ∷ [])
+    ∷ (steppedPrices Buy 1500 500, 500 ∷ 800 ∷ 1100 ∷ 1500 ∷ [])
     -- half way: 201, 200 and 199 on side 1, stepped by 99, by nothing and by 1; the same three on side 0, by 1, by nothing and by 99
     ∷ (halfWay Sell 301 100 ∷ halfWay Sell 300 100 ∷ halfWay Sell 299 99 ∷ [], 300 ∷ 200 ∷ 200 ∷ [])
     ∷ (halfWay Buy 301 101 ∷ halfWay Buy 300 100 ∷ halfWay Buy 299 99 ∷ [], 200 ∷ 200 ∷ 100 ∷ [])
@@ -178,18 +178,18 @@ priceCases =
     ∷ (halfWay Sell 299 201 ∷ halfWay Sell 300 200 ∷ halfWay Sell 301 199 ∷ [], 299 ∷ 300 ∷ 300 ∷ [])
     ∷ (halfWay Buy 299 201 ∷ halfWay Buy 300 200 ∷ halfWay Buy 301 199 ∷ [], 201 ∷ 200 ∷ 200 ∷ [])
     -- no multiple of 100 from lo to hi: the auction stands still. hi 4 and lo 2 are those of r 3 with slack 500,000
-    ∷ (prices Sell 4 2, 4 ∷ 4 ∷ 4 ∷ 4 ∷ [])
-    ∷ (prices Buy 4 2, 2 ∷ 2 ∷ 2 ∷ 2 ∷ [])
-    ∷ (prices Sell 199 101, 199 ∷ 199 ∷ 199 ∷ 199 ∷ [])
-    ∷ (prices Buy 199 101, 101 ∷ 101 ∷ 101 ∷ 101 ∷ [])
+    ∷ (steppedPrices Sell 4 2, 4 ∷ 4 ∷ 4 ∷ 4 ∷ [])
+    ∷ (steppedPrices Buy 4 2, 2 ∷ 2 ∷ 2 ∷ 2 ∷ [])
+    ∷ (steppedPrices Sell 199 101, 199 ∷ 199 ∷ 199 ∷ 199 ∷ [])
+    ∷ (steppedPrices Buy 199 101, 101 ∷ 101 ∷ 101 ∷ 101 ∷ [])
     -- one at a bound alone
-    ∷ (prices Sell 100 93, 100 ∷ 100 ∷ 100 ∷ 100 ∷ [])
-    ∷ (prices Buy 100 93, 93 ∷ 93 ∷ 93 ∷ 100 ∷ [])
+    ∷ (steppedPrices Sell 100 93, 100 ∷ 100 ∷ 100 ∷ 100 ∷ [])
+    ∷ (steppedPrices Buy 100 93, 93 ∷ 93 ∷ 93 ∷ 100 ∷ [])
     -- no slack
     ∷ (auctionPrice Sell 2500050 2500050 7 9 ∷ auctionPrice Buy 2500050 2500050 7 9 ∷ [], 2500050 ∷ 2500050 ∷ [])
     -- the largest bounds, 1,166,666,667 and 833,333,333 at block 1; and a step that passes 32 bits
-    ∷ (prices Sell 1500000000 500000000, 1500000000 ∷ 1166666700 ∷ 833333400 ∷ 500000000 ∷ [])
-    ∷ (prices Buy 1500000000 500000000, 500000000 ∷ 833333300 ∷ 1166666600 ∷ 1500000000 ∷ [])
+    ∷ (steppedPrices Sell 1500000000 500000000, 1500000000 ∷ 1166666700 ∷ 833333400 ∷ 500000000 ∷ [])
+    ∷ (steppedPrices Buy 1500000000 500000000, 500000000 ∷ 833333300 ∷ 1166666600 ∷ 1500000000 ∷ [])
     ∷ (halfWay Sell 4294967295 4294967201 ∷ halfWay Buy 4294967295 4294967201 ∷ [], 4294967295 ∷ 4294967201 ∷ [])
     ∷ []
 

@@ -6,7 +6,7 @@ use Rattle.pricing.specs.declared.Side.{Side}
 use Rattle.pricing.specs.declared.Side.the-variants.{Buy, Sell}
 use Rattle.pricing.specs.declared.Trade.{Trade}
 use Rattle.pricing.specs.Prices.{highBound, lowBound, matchBase, matchQuote, trade, tradeWithin, linearPrice, auctionPrice, sharePaid, shareGot, fetches}
-use Rattle.pricing.specs.Laws.{Moves, SteppedUp, SteppedDown, TradeFits, Near, ShareLaw, Rate, BoundsEven, PricesWithin, PricesStepped, PricesEnd, TradesFit, UpperKept, NoSlack, DropsOnly, QuotesNear, SharesHold, LimitsHold}
+use Rattle.pricing.specs.Laws.{Moves, SteppedUp, SteppedDown, TradeFits, Near, ShareLaw, Rate, BoundsEven, PricesWithin, PricesStepped, PricesStart, PricesMove, LowAtEnd, PricesEnd, TradesFit, UpperKept, NoSlack, DropsOnly, QuotesNear, SharesHold, LimitsHold}
 
 -- "Offers 100, 100, 101 (T 301)"
 abbrev pub threeOffers : List ℕ
@@ -60,6 +60,12 @@ pub record LawsUsed : Type 0 where
   -- 1,200 is 1,168 stepped and 800 is 834 stepped, so these are the prices
   pub sell-alone : PricesStepped → auctionPrice Sell 1501 501 1 3 ≡ 1200
   pub buy-alone : PricesStepped → auctionPrice Buy 1501 501 1 3 ≡ 800
+  -- the start of any auction; between 501 and 1,501 no block's price is behind that of an earlier one; between 500 and 1,500 it ends in three
+  pub starts-any : PricesStart → (hi lo len : ℕ) → (auctionPrice Sell hi lo 0 len ≡ hi) × (auctionPrice Buy hi lo 0 len ≡ lo)
+  pub sells-move : PricesMove → (j k : ℕ) → j ≤ k → auctionPrice Sell 1501 501 k 3 ≤ auctionPrice Sell 1501 501 j 3
+  pub buys-move : PricesMove → (j k : ℕ) → j ≤ k → auctionPrice Buy 1501 501 j 3 ≤ auctionPrice Buy 1501 501 k 3
+  pub low-three : LowAtEnd → (k : ℕ) → k ≤ 3 → auctionPrice Sell 1500 500 k 3 ≡ 500 → k ≡ 3
+  pub low-near : LowAtEnd → (lo k : ℕ) → k ≤ 1 → auctionPrice Sell (lo + 1) lo k 1 ≡ lo → k ≡ 1
   -- the end of any auction between 501 and 1,501, of one block between any bounds, and where the bounds are the same
   pub ends-any :
       PricesEnd → (len : ℕ) → 0 < len

@@ -23,7 +23,7 @@ pub record SteppedUp (hi u p : ℕ) : Type 0 where
   pub within : p ≤ hi
   pub multiple : ((m : ℕ) × (p ≡ m * 100)) ⊎ (p ≡ hi)
   pub least : (m : ℕ) → u ≤ m * 100 → p ≤ m * 100
-  -- what follows
+  -- so it is less than 100 above u
   pub close : p < u + 100
 
 -- p is u rounded down to a multiple of 100, but never below lo: the greatest number from lo to u that is a multiple or lo itself
@@ -32,7 +32,7 @@ pub record SteppedDown (lo u p : ℕ) : Type 0 where
   pub within : lo ≤ p
   pub multiple : ((m : ℕ) × (p ≡ m * 100)) ⊎ (p ≡ lo)
   pub greatest : (m : ℕ) → m * 100 ≤ u → m * 100 ≤ p
-  -- what follows
+  -- so it is less than 100 below u
   pub close : u < p + 100
 
 -- p is a side's price u, stepped
@@ -85,6 +85,18 @@ PricesStepped =
     (x : Side) (hi lo k len : ℕ)
     → let u : ℕ = linearPrice x hi lo k len in
     Stepped x hi lo u (auctionPrice x hi lo k len) × ((p : ℕ) → Stepped x hi lo u p → p ≡ auctionPrice x hi lo k len)
+
+-- an auction begins at hi on side 1 and at lo on side 0
+abbrev pub PricesStart : Type 0
+PricesStart = (hi lo len : ℕ) → (auctionPrice Sell hi lo 0 len ≡ hi) × (auctionPrice Buy hi lo 0 len ≡ lo)
+
+-- it does not turn back
+abbrev pub PricesMove : Type 0
+PricesMove = (x : Side) (hi lo j k len : ℕ) → 0 < len → j ≤ k → Moves x (auctionPrice x hi lo j len) (auctionPrice x hi lo k len)
+
+-- side 1 comes to lo at the last block only
+abbrev pub LowAtEnd : Type 0
+LowAtEnd = (hi lo k len : ℕ) → lo < hi → 0 < len → k ≤ len → auctionPrice Sell hi lo k len ≡ lo → k ≡ len
 
 -- L6: "At k = L the side 1 price may now stand above lo, and the side 0 price below hi, by less than 100"
 abbrev pub PricesEnd : Type 0

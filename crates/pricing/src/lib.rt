@@ -179,7 +179,7 @@ pub fn trade_within(q: Amount, s: Amount, reference: Price, hi: Price, lo: Price
     Trade { base, quote }
 }
 
-// The price k blocks into an auction of length blocks, of what a side's orders left, before it is stepped.
+// An auction's price before it is stepped.
 fn linear_price(side: Side, hi: Price, lo: Price, k: u32, length: u32) -> Price
     requires { ⌜ (lo .0 ≤ hi .0) × (k ≤ length) × (1 ≤ length) ⌝ }
     ensures { λ p. ⌜ p .0 ≡ linearPrice side (hi .0) (lo .0) k length ⌝ }
@@ -213,7 +213,7 @@ fn stepped_down(p: Price, lo: Price) -> Price
     Price(rounded as u32)
 }
 
-// The auction's price at that block, stepped.
+// The price k blocks into an auction of length blocks, of what a side's orders left, stepped.
 pub fn auction_price(side: Side, hi: Price, lo: Price, k: u32, length: u32) -> Price
     requires { ⌜ (lo .0 ≤ hi .0) × (k ≤ length) × (1 ≤ length) ⌝ }
     ensures { λ p. ⌜ p ≡ price (auctionPrice side (hi .0) (lo .0) k length) ⌝ }
