@@ -778,28 +778,34 @@ lateMatches =
     ∷ balance-is 3 0 2500000
     ∷ []
 
--- Prices on the hundred: r 1,001, slack 500,000, L 3, both auctions from block 4. In market 1 makers take base, at 1501, 1168 up to 1200, 835 up
--- to 900 and 501 up to 600; in market 2 quote, at 501, 834 down to 800, 1167 down to 1100 and 1501 down to 1500.
+-- Prices on the hundred: r 1,001, slack 500,000, L 3, auctions from block 4. In market 1 makers take base, at 1501, 1168 up to 1200, 835 up to
+-- 900 and 501 up to 600; in market 2 quote, at 501, 834 down to 800, 1167 down to 1100 and 1501 down to 1500; in market 3 quote too, with r 300,
+-- slack 200,000 and L 7.
 unfoldable pub pricesStepped : List Line
 pricesStepped =
     accepted (Deposit 1 1 2000000) 2000000 0
-    ∷ accepted (Deposit 2 0 5000) 5000 0
+    ∷ accepted (Deposit 2 0 5540) 5540 0
     ∷ accepted (Deposit 3 0 1772) 1772 0
     ∷ accepted (Deposit 3 2 4732667) 4732667 0
+    ∷ accepted (Deposit 3 3 2000000) 2000000 0
     ∷ accepted (Deposit 4 0 119) 119 0
     ∷ accepted (Order 0 1 1 1 501 1500000) 1500000 0
     ∷ accepted (Order 1 1 1 1 501 500000) 500000 0
     ∷ accepted (Order 2 2 2 0 1501 3000) 3000 0
     ∷ accepted (Order 3 2 2 0 1501 2000) 2000 0
+    ∷ accepted (Order 4 2 3 0 360 540) 540 0
     -- 1501.5 down, 500.5 up: bounds are not stepped
     ∷ accepted (Open 1 0 1001 500000 3) 1501 501
     ∷ accepted (Open 2 0 1001 500000 3) 1501 501
+    ∷ accepted (Open 3 0 300 200000 7) 360 240
     ∷ accepted (Enter 0) 1500000 0
     ∷ accepted (Enter 1) 2000000 0
     ∷ accepted (Enter 2) 3000 0
     ∷ accepted (Enter 3) 5000 0
+    ∷ accepted (Enter 4) 540 0
     ∷ accepted (Match 1 4) 0 0
     ∷ accepted (Match 2 4) 0 0
+    ∷ accepted (Match 3 4) 0 0
     -- k 0: a million base at a price p is p quote
     ∷ refused (Bid 1 3 4 1 1000000 1500) 18
     ∷ accepted (Bid 1 3 4 1 1000000 1501) 1000000 1501
@@ -828,14 +834,23 @@ pricesStepped =
     -- 2,598 quote left: 1,732,667 base come to 2,599.0005, 1,732,000 to just 2,598, where document 01's price gave 2,599.7
     ∷ refused (Bid 2 3 7 0 1732667 0) 17
     ∷ accepted (Bid 2 3 7 0 1732000 2598) 1732000 2598
+    -- k 3 of 7: 120 × 3 / 7 is 51.4; 291, down to 200, which passes lo: the price 240
+    ∷ refused (Bid 3 3 7 0 1000000 241) 18
+    ∷ accepted (Bid 3 3 7 0 1000000 240) 1000000 240
     -- no quote left in market 2; 699,999 base in market 1
     ∷ accepted (Settle 2 7) 5000 0
     ∷ refused (Settle 1 7) 13
     ∷ refused (Bid 1 3 8 1 1 1) 16
     ∷ accepted (Settle 1 8) 0 1300001
-    ∷ balance-is 3 0 5000
+    -- k 7 of 7: 360, down to 300, just what is left of 540
+    ∷ refused (Bid 3 3 11 0 1000000 301) 18
+    ∷ accepted (Bid 3 3 11 0 1000000 300) 1000000 300
+    ∷ accepted (Settle 3 11) 540 0
+    ∷ accepted (Claim 4) 540 2000000
+    ∷ balance-is 3 0 5540
     ∷ balance-is 3 1 1300001
     ∷ balance-is 3 2 0
+    ∷ balance-is 3 3 0
     -- sells: T 2,000,000, P 1,300,001, G 1501 + 120 + 90 + 60 + 1. 975,000.75 and 1329; 325,000.25 and 443
     ∷ accepted (Claim 0) 975001 1329
     ∷ accepted (Claim 1) 325001 443
