@@ -236,13 +236,19 @@ fn check_bid(
     wrong_if(*is.balances() != balances, "a bid does not move in balances what it answers")
 }
 
-/// A price of an auction lies from lo to hi, and less than 100 from where it
-/// would be without steps. From there on it is the first that is a multiple of
-/// 100 or the bound: upwards to hi for side 1, downwards to lo for side 0.
+/// Before its step, a price of an auction went from its first bound so far as k
+/// blocks of the way to the other come to, rounded down, and not past that. The
+/// price itself lies from lo to hi, and less than 100 from there. From there on
+/// it is the first that is a multiple of 100 or the bound: upwards to hi for
+/// side 1, downwards to lo for side 0.
 pub fn check_price(round: &Market, side: u32, k: u32, price: u64) -> Result<(), &'static str> {
     let Market { hi, lo, .. } = *round;
-    let moved = (hi - lo) * u64::from(k) / u64::from(round.length);
-    let from = if side == 1 { hi - moved } else { lo + moved };
+    let from = round.unstepped_price(side, k);
+    wrong_if(!(lo..=hi).contains(&from), "a price before its step breaks a bound")?;
+    let moved = if side == 1 { hi - from } else { from - lo };
+    let (way, length) = ((hi - lo) * u64::from(k), u64::from(round.length));
+    let line = moved * length..(moved + 1) * length;
+    wrong_if(!line.contains(&way), "a price before its step is off its line")?;
     wrong_if(!(lo..=hi).contains(&price), "a price breaks a bound")?;
     wrong_if(price.abs_diff(from) >= 100, "a price is a whole step off")?;
     let stops = |at: &u64| *at % 100 == 0 || *at == if side == 1 { hi } else { lo };

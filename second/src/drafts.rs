@@ -942,7 +942,12 @@ impl Drafts {
             let side = self.chance.below(2);
             let left = round.halves[side as usize].left();
             let (low, high) = self.bid_range(market, side, block);
-            let base = match self.chance.below(4) {
+            if low == 1 && high >= MOST {
+                return None;
+            }
+            // Too little, or too much where there is a number for it.
+            let sorts = if high < MOST { 4 } else { 2 };
+            let base = match self.chance.below(sorts) {
                 0 if low > 1 => low - 1,
                 1 if low > 1 => self.chance.between(1, low - 1),
                 2 => self.chance.between(high + 1, MOST),

@@ -1097,6 +1097,26 @@ mod tests {
         }
     }
 
+    #[test]
+    fn wrong_prices_before_the_step_are_told() {
+        let bound = Err("a price before its step breaks a bound");
+        let off = Err("a price before its step is off its line");
+        let round = stepping(1).markets[0];
+        let no_length = Market { length: 0, ..round };
+        let no_lo = Market { lo: 0, ..round };
+        // Past the auction's end; of no length; and past the end, held at 0.
+        let wrong = [
+            (&round, 1, 4, bound),
+            (&round, 0, 4, bound),
+            (&no_length, 1, 0, off),
+            (&no_length, 0, 0, off),
+            (&no_lo, 1, 4, off),
+        ];
+        for (round, side, k, text) in wrong {
+            assert_eq!(check_price(round, side, k, round.price(side, k)), text, "{side} {k}");
+        }
+    }
+
     /// A bid of member 2 at k 1.
     fn stepped_bid(side: u32, base: u32, bound: u32) -> Call {
         Call::Bid { market: 1, member: 2, block: 5, side, base, bound }

@@ -256,9 +256,11 @@ impl Counts {
         }
     }
 
-    /// The same for a border that each side has, under the side's name.
-    fn add_side(&mut self, holds: bool, side: u32, names: [&'static str; 2]) {
-        self.add_if(holds, names[side as usize]);
+    /// The same for borders that each side has, under the side's names.
+    fn add_sides(&mut self, side: u32, borders: &[(bool, [&'static str; 2])]) {
+        for (holds, names) in borders {
+            self.add_if(*holds, names[side as usize]);
+        }
     }
 
     fn line(&mut self, line: &[u8], call: Option<Call>, ended: bool) {
@@ -371,47 +373,120 @@ impl Counts {
         let price = round.price(side, k);
         let step = price.abs_diff(round.unstepped_price(side, k));
         let (first, last) = if side == 1 { (hi, lo) } else { (lo, hi) };
-        let names = ["bid: side 0 price stepped by 1", "bid: side 1 price stepped by 1"];
-        self.add_side(step == 1, side, names);
-        let names = ["bid: side 0 price stepped by 99", "bid: side 1 price stepped by 99"];
-        self.add_side(step == 99, side, names);
         let to_first = step > 0 && price == first;
-        let names =
-            ["bid: side 0 price stepped to just lo", "bid: side 1 price stepped to just hi"];
-        self.add_side(to_first && first % STEP == 0, side, names);
-        let names = ["bid: side 0 price floored at lo", "bid: side 1 price capped at hi"];
-        self.add_side(to_first && first % STEP != 0, side, names);
-        let names = ["bid: side 0 price below 100", "bid: side 1 price below 100"];
-        self.add_side(price < STEP, side, names);
-        let names = [
-            "bid: side 0 price above 100000000, stepped",
-            "bid: side 1 price above 100000000, stepped",
+        let hundred = price % STEP == 0;
+        let between = k > 0 && k < length;
+        let moves = lo < hi;
+        let ends = moves && k == length;
+        let borders = [
+            (step == 1, ["bid: side 0 price stepped by 1", "bid: side 1 price stepped by 1"]),
+            (step == 99, ["bid: side 0 price stepped by 99", "bid: side 1 price stepped by 99"]),
+            (
+                moves && between && step == 0 && hundred,
+                [
+                    "bid: side 0 price stepped by nothing, k between",
+                    "bid: side 1 price stepped by nothing, k between",
+                ],
+            ),
+            (
+                to_first && hundred,
+                ["bid: side 0 price stepped to just lo", "bid: side 1 price stepped to just hi"],
+            ),
+            (
+                to_first && !hundred,
+                ["bid: side 0 price floored at lo", "bid: side 1 price capped at hi"],
+            ),
+            (
+                moves && k > 0 && lo.next_multiple_of(STEP) > hi,
+                ["bid: side 0 price stands still", "bid: side 1 price stands still"],
+            ),
+            (
+                !moves && k > 0 && !hundred,
+                [
+                    "bid: side 0 price off the hundred, lo as hi",
+                    "bid: side 1 price off the hundred, lo as hi",
+                ],
+            ),
+            (
+                ends && price == last,
+                ["bid: side 0 price ends at hi", "bid: side 1 price ends at lo"],
+            ),
+            (
+                ends && price != last,
+                ["bid: side 0 price ends below hi", "bid: side 1 price ends above lo"],
+            ),
+            (
+                ends && price.abs_diff(last) == 99,
+                ["bid: side 0 price ends 99 below hi", "bid: side 1 price ends 99 above lo"],
+            ),
+            (price < STEP, ["bid: side 0 price below 100", "bid: side 1 price below 100"]),
+            (
+                step > 0 && price > 100_000_000,
+                [
+                    "bid: side 0 price above 100000000, stepped",
+                    "bid: side 1 price above 100000000, stepped",
+                ],
+            ),
         ];
-        self.add_side(step > 0 && price > 100_000_000, side, names);
-        if hi == lo {
-            let names = [
-                "bid: side 0 price off the hundred, lo as hi",
-                "bid: side 1 price off the hundred, lo as hi",
-            ];
-            self.add_side(k > 0 && price % STEP != 0, side, names);
-            return;
+        self.add_sides(side, &borders);
+    }
+
+    /// What the step of its price did to a bid at a block of the auction.
+    fn stepped(&mut self, was: &Exchange, bid: Call, code: u8) {
+        let Call::Bid { market, member, block, side, base, bound } = bid else { return };
+        let round = was.markets()[market as usize - 1];
+        let k = block - round.start;
+        let prices = [round.price(side, k), round.unstepped_price(side, k)];
+        let [quote, unstepped] = prices.map(|price| bid_quote(side, base, price));
+        let left = round.halves[side as usize].left();
+        let [base, bound] = [base, bound].map(u64::from);
+        let balances = was.balances()[member as usize];
+        // Whether it would be taken if prices had no steps.
+        let fits = if side == 1 {
+            base <= left && unstepped <= bound.min(balances[0])
+        } else {
+            (bound.max(1)..=left).contains(&unstepped) && base <= balances[market as usize]
+        };
+        let taken = code == 0;
+        if side == 0 {
+            self.add_if(fits && code == 17, "bid: side 0 quote 0 only by the step");
+            self.add_if(!fits && taken, "bid: side 0 quote left met only by the step");
+        } else {
+            self.add_if(fits && code == 19, "bid: side 1 balance missed only by the step");
         }
-        let names = [
-            "bid: side 0 price stepped by nothing, k between",
-            "bid: side 1 price stepped by nothing, k between",
+        let moved = taken && quote != unstepped;
+        let borders = [
+            (moved, ["bid: side 0 quote moved by the step", "bid: side 1 quote moved by the step"]),
+            (
+                taken && !moved && prices[0] != prices[1],
+                [
+                    "bid: side 0 quote not moved by the step",
+                    "bid: side 1 quote not moved by the step",
+                ],
+            ),
+            (
+                moved && bound == quote,
+                [
+                    "bid: side 0 bound met, quote moved by the step",
+                    "bid: side 1 bound met, quote moved by the step",
+                ],
+            ),
+            (
+                fits && code == 18,
+                [
+                    "bid: side 0 bound missed only by the step",
+                    "bid: side 1 bound missed only by the step",
+                ],
+            ),
+            (
+                code == 18 && bound == unstepped,
+                [
+                    "bid: side 0 bound at the quote without the step refused",
+                    "bid: side 1 bound at the quote without the step refused",
+                ],
+            ),
         ];
-        self.add_side(step == 0 && price % STEP == 0 && k > 0 && k < length, side, names);
-        let names = ["bid: side 0 price stands still", "bid: side 1 price stands still"];
-        self.add_side(k > 0 && lo.next_multiple_of(STEP) > hi, side, names);
-        if k == length {
-            let names = ["bid: side 0 price ends at hi", "bid: side 1 price ends at lo"];
-            self.add_side(price == last, side, names);
-            let names = ["bid: side 0 price ends below hi", "bid: side 1 price ends above lo"];
-            self.add_side(price != last, side, names);
-            let names =
-                ["bid: side 0 price ends 99 below hi", "bid: side 1 price ends 99 above lo"];
-            self.add_side(price.abs_diff(last) == 99, side, names);
-        }
+        self.add_sides(side, &borders);
     }
 
     /// Looks at a call, its answer, and the exchange before and after it.
@@ -586,14 +661,12 @@ impl Counts {
                 if code == 16 {
                     return;
                 }
-                let prices = [round.price(side, k), round.unstepped_price(side, k)];
-                let [quote, unstepped] = prices.map(|price| bid_quote(side, base, price));
+                self.stepped(was, call, code);
+                let quote = bid_quote(side, base, round.price(side, k));
                 let left = round.halves[side as usize].left();
                 let base = u64::from(base);
                 let bound = u64::from(bound);
                 let balances = was.balances()[member as usize];
-                // Whether it would be taken if prices had no steps.
-                let fits;
                 if side == 0 {
                     let met = quote == bound && taken;
                     self.add_if(met, "bid: side 0 bound met");
@@ -607,10 +680,6 @@ impl Counts {
                     let above = code == 17 && quote == left + 1;
                     self.add_if(above, "bid: side 0 one more than left refused");
                     self.add_if(code == 17 && quote == 0, "bid: side 0 quote 0 refused");
-                    let within = (bound.max(1)..=left).contains(&unstepped);
-                    fits = within && base <= balance;
-                    self.add_if(fits && code == 17, "bid: side 0 quote 0 only by the step");
-                    self.add_if(taken && !fits, "bid: side 0 quote left met only by the step");
                 } else {
                     let met = quote == bound && taken;
                     self.add_if(met, "bid: side 1 bound met");
@@ -624,38 +693,9 @@ impl Counts {
                     self.add_if(above, "bid: side 1 one more than left refused");
                     let above = code == 18 && quote > MOST;
                     self.add_if(above, "bid: side 1 cost above the most refused");
-                    fits = base <= left && unstepped <= bound.min(balances[0]);
-                    let missed = fits && code == 19;
-                    self.add_if(missed, "bid: side 1 balance missed only by the step");
                 }
-                let names = [
-                    "bid: side 0 bound missed only by the step",
-                    "bid: side 1 bound missed only by the step",
-                ];
-                self.add_side(fits && code == 18, side, names);
-                let names = [
-                    "bid: side 0 bound at the quote without the step refused",
-                    "bid: side 1 bound at the quote without the step refused",
-                ];
-                self.add_side(code == 18 && bound == unstepped, side, names);
                 if taken {
                     self.price(&round, side, k);
-                    let moved = quote != unstepped;
-                    let names = [
-                        "bid: side 0 quote moved by the step",
-                        "bid: side 1 quote moved by the step",
-                    ];
-                    self.add_side(moved, side, names);
-                    let names = [
-                        "bid: side 0 quote not moved by the step",
-                        "bid: side 1 quote not moved by the step",
-                    ];
-                    self.add_side(!moved && prices[0] != prices[1], side, names);
-                    let names = [
-                        "bid: side 0 bound met, quote moved by the step",
-                        "bid: side 1 bound met, quote moved by the step",
-                    ];
-                    self.add_side(moved && bound == quote, side, names);
                     self.add_if(side == 0, "bid: side 0");
                     self.add_if(side == 1, "bid: side 1");
                     self.add_if(k == 0, "bid: k 0");

@@ -519,7 +519,7 @@ impl<W: Write> Traffic<W> {
         self.bounded_bids(market, side, block, 4)?;
         let mut draft = self.part_bid(market, side, block)?;
         if side == 1 || self.drafts.chance.once_in(2) {
-            self.lacking(draft);
+            self.bid_one_short(draft);
         }
         // One unit too little to take anything, and just enough.
         let (low, _) = self.drafts.bid_range(market, side, block);
@@ -585,7 +585,7 @@ impl<W: Write> Traffic<W> {
 
     /// A maker who lacks one unit for a bid, then has just enough. False if no
     /// member is so poor, or there is no room for what is lacking.
-    fn lacking(&mut self, mut draft: Draft) -> bool {
+    fn bid_one_short(&mut self, mut draft: Draft) -> bool {
         let (token, given) = self.drafts.bid_given(&draft);
         let Some(member) = self.drafts.find_poor(token, given) else { return false };
         let lack = given - self.drafts.balance(member, token);
@@ -695,7 +695,7 @@ impl<W: Write> Traffic<W> {
                 let Some(draft) = self.drafts.bid_draft(market) else {
                     return false;
                 };
-                self.lacking(draft)
+                self.bid_one_short(draft)
             }
             // A bound missed by one, then met exactly.
             4 => {
