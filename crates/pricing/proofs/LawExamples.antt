@@ -75,8 +75,8 @@ laws-used =
       sell-alone = λ w. sym (w Sell 1501 501 1 3 .1 1200 (up-to 1501 1168 12 (omega arith) (omega arith) (omega arith)));
       buy-alone = λ w. sym (w Buy 1501 501 1 3 .1 800 (down-to 501 834 8 (omega arith) (omega arith) (omega arith)));
       starts-any = λ w hi lo len. w hi lo len;
-      sells-move = λ w j k l. w Sell 1501 501 j k 3 (omega arith) l;
-      buys-move = λ w j k l. w Buy 1501 501 j k 3 (omega arith) l;
+      sells-move = λ w hi lo j k l. w Sell hi lo j k 1 (omega arith) l;
+      buys-move = λ w hi lo j k l. w Buy hi lo j k 1 (omega arith) l;
       low-three = λ w k l e. w 1500 500 k 3 (omega arith) (omega arith) l e;
       low-near = λ w lo k l e. w (lo + 1) lo k 1 (omega arith) (omega arith) l e;
       ends-any = λ w len l. let e = w 1501 501 len (omega arith) l in (e .0, e .1, e .2, omega (arith, e .3));

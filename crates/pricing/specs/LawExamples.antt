@@ -60,10 +60,10 @@ pub record LawsUsed : Type 0 where
   -- 1,200 is 1,168 stepped and 800 is 834 stepped, so these are the prices
   pub sell-alone : PricesStepped → auctionPrice Sell 1501 501 1 3 ≡ 1200
   pub buy-alone : PricesStepped → auctionPrice Buy 1501 501 1 3 ≡ 800
-  -- the start of any auction; between 501 and 1,501 no block's price is behind that of an earlier one; between 500 and 1,500 it ends in three
+  -- the start of any auction; the way of one block between any bounds; lo at block 3 of 3 only, and at block 1 of 1 where hi is one above it
   pub starts-any : PricesStart → (hi lo len : ℕ) → (auctionPrice Sell hi lo 0 len ≡ hi) × (auctionPrice Buy hi lo 0 len ≡ lo)
-  pub sells-move : PricesMove → (j k : ℕ) → j ≤ k → auctionPrice Sell 1501 501 k 3 ≤ auctionPrice Sell 1501 501 j 3
-  pub buys-move : PricesMove → (j k : ℕ) → j ≤ k → auctionPrice Buy 1501 501 j 3 ≤ auctionPrice Buy 1501 501 k 3
+  pub sells-move : PricesMove → (hi lo j k : ℕ) → j ≤ k → auctionPrice Sell hi lo k 1 ≤ auctionPrice Sell hi lo j 1
+  pub buys-move : PricesMove → (hi lo j k : ℕ) → j ≤ k → auctionPrice Buy hi lo j 1 ≤ auctionPrice Buy hi lo k 1
   pub low-three : LowAtEnd → (k : ℕ) → k ≤ 3 → auctionPrice Sell 1500 500 k 3 ≡ 500 → k ≡ 3
   pub low-near : LowAtEnd → (lo k : ℕ) → k ≤ 1 → auctionPrice Sell (lo + 1) lo k 1 ≡ lo → k ≡ 1
   -- the end of any auction between 501 and 1,501, of one block between any bounds, and where the bounds are the same
