@@ -1,5 +1,7 @@
 // Deposit, withdraw, order and cancel on the parts that they touch. Public for the crates above; what they ask of their parts holds of the
 // parts of every reachable state, and what they ask of numbers is what a call's form gives.
+#![tactic(auto)]
+
 ghost use Rattle.std.specs.Prelude.{◌≡◌, not, ◌<◌};
 ghost use Rattle.model.specs.State.{is_free};
 ghost use Rattle.parts.specs.Asked.{BankBounds, CancelBounds};

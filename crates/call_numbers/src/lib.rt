@@ -1,4 +1,6 @@
 // A call as plain numbers, its kind number and its fields: out of a call, and in from a host.
+#![tactic(auto)]
+
 ghost use Rattle.std.specs.Prelude.{◌≡◌, ◌∷◌};
 ghost use Rattle.model.specs.Kinds.{numbers_of_call};
 ghost use Rattle.lines.specs.CallLines.{call_of};
@@ -10,7 +12,7 @@ use lines::call::{Reading, call_of};
 use model::call::Call;
 
 // The first count of the values are a call's kind number and its fields, and the rest are 0.
-#[derive(Drop)]
+#[derive(Clone, Copy)]
 pub struct CallNumbers {
     pub count: usize,
     pub values: [u32; 8],

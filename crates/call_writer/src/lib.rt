@@ -1,4 +1,6 @@
 // The call writer: a call's line with its byte 10, into a lent buffer at a place.
+#![tactic(auto)]
+
 ghost use Rattle.std.specs.Prelude.{◌≡◌, [], ◌∷◌, ◌++◌, ◌+◌, ◌-◌, ◌≤◌, ◌<◌, length, take};
 ghost use Rattle.decimal.specs.Buffer.{put_at, put_from};
 ghost use Rattle.lines.specs.CallLines.{call_of};
@@ -15,7 +17,7 @@ use model::call::Call;
 pub const LONGEST_CALL: usize = 68;
 
 // A call written: the length of its line, or too little room (21).
-#[derive(Drop)]
+#[derive(Clone, Copy)]
 pub enum CallWritten {
     Written(usize),
     TooShort,
@@ -24,7 +26,7 @@ pub enum CallWritten {
 // What is told where plain numbers are written as a call's line: 0 and the line's length; 20 and 0 where they are no call's; 21 and 0 where the line
 // does not fit.
 #[repr(C)]
-#[derive(Drop)]
+#[derive(Clone, Copy)]
 pub struct LinePut {
     pub code: u32,
     pub length: usize,

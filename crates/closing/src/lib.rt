@@ -1,4 +1,6 @@
 // What a host asks to bring a market back to closed: how many tickets its round still marks, and which to claim next.
+#![tactic(auto)]
+
 ghost use Rattle.std.specs.Prelude.{◌≡◌};
 ghost use Rattle.model.specs.Run.{Reachable};
 ghost use Rattle.model.specs.State.{round_in};

@@ -1,4 +1,6 @@
 // The day program: reads call lines from standard input and writes the header and an answer line for each to standard output.
+#![tactic(auto)]
+
 ghost use Rattle.std.specs.Prelude.{◌≡◌, true, ◌≤◌, length};
 ghost use Rattle.model.specs.Run.{Reachable};
 ghost use Rattle.lines.specs.AnswerText.{longest_answer};
@@ -10,14 +12,14 @@ use replay::day::{Day, LAST_LINE, fresh_day};
 use stream::{feed, finish};
 
 // The day after a piece of the input or after its end, and whether the answers were written.
-#[derive(Drop)]
+#[derive(Clone, Copy)]
 struct Step {
     day: Day,
     written: bool,
 }
 
 // Why reading ended.
-#[derive(Drop)]
+#[derive(Clone, Copy)]
 enum End {
     Finished,
     CannotRead,
@@ -25,7 +27,7 @@ enum End {
 }
 
 // The day when reading ended.
-#[derive(Drop)]
+#[derive(Clone, Copy)]
 struct Ended {
     day: Day,
     end: End,

@@ -1,4 +1,6 @@
 // Decimal numbers written into a lent buffer. No array is kept: each digit goes straight to its final place (tests/arrays).
+#![tactic(auto)]
+
 ghost use Rattle.std.specs.Prelude.{◌≡◌, [], ◌∷◌, ◌++◌, ◌+◌, ◌≤◌, length};
 ghost use Rattle.units.specs.Decimal.{digits};
 ghost use Rattle.decimal.specs.Buffer.{put_at, put_into, put_count};

@@ -1,5 +1,7 @@
 // Enter on the parts that it touches. Public for the crates above; what it asks of its parts holds of the parts of every reachable state,
 // and what it asks of numbers is what a call's form gives.
+#![tactic(auto)]
+
 ghost use Rattle.std.specs.Prelude.{◌≡◌, ◌<◌, ◌≤◌, ◌+◌};
 ghost use Rattle.units.specs.Counts.{largest};
 ghost use Rattle.pricing.specs.Prices.{off_limit};

@@ -1,4 +1,6 @@
 // The calls by value, each in a state that calls can leave. A call's work is done on the parts that it touches, and the parts are put back.
+#![tactic(auto)]
+
 ghost use Rattle.std.specs.Prelude.{◌≡◌};
 ghost use Rattle.model.specs.Calls.{deposit_of, withdraw_of, order_of, cancel_of, open_of, enter_of, match_of, bid_of, settle_of, claim_of, leave_of};
 ghost use Rattle.model.specs.Run.{Reachable, step_of};

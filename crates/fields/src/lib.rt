@@ -1,11 +1,13 @@
 // The field reader: the numbers of a line, read where it lies.
+#![tactic(auto)]
+
 ghost use Rattle.std.specs.Prelude.{◌≡◌};
 ghost use Rattle.fields.specs.Grammar.{is_digit};
 ghost use Rattle.fields.specs.Fields.{comma_at, field_step, first_step, fields_end, fields_at};
 
 // The numbers that a line begins with, the kind and its fields, and the place where the reader stopped: count of the values are numbers,
 // and the others are 0. count is 0 and values are 0 where a field is no number or there are more than MOST_NUMBERS.
-#[derive(Drop)]
+#[derive(Clone, Copy)]
 pub struct Fields {
     pub count: usize,
     pub values: [u32; 8],
@@ -19,7 +21,7 @@ const LARGEST: u64 = 4_294_967_295;
 const MOST_NUMBERS: usize = 8;
 
 // A field's value with one byte more: it is a digit, or the field ends before it, or the field is no number.
-#[derive(Drop)]
+#[derive(Clone, Copy)]
 pub enum FieldStep {
     Value(u32),
     End,

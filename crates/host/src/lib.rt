@@ -1,4 +1,6 @@
 // A host, as an example: it keeps one exchange and lends it to every call, and to the call that takes a line.
+#![tactic(auto)]
+
 ghost use Rattle.std.specs.Prelude.{◌≡◌, length};
 ghost use Rattle.decimal.specs.Buffer.{put_into};
 ghost use Rattle.replay.specs.Lines.{line_text};
@@ -11,7 +13,7 @@ use model::state::{Exchange, fresh};
 use replay::line::Answered;
 
 // What the host was answered, and the state that it ends with.
-#[derive(Drop)]
+#[derive(Clone, Copy)]
 pub struct Served {
     pub first: Answer,
     pub second: Answer,

@@ -1,5 +1,7 @@
 // Leave on the parts that it touches. Public for the crates above; what it asks of its parts holds of the parts of every reachable state,
 // and what it asks of numbers is what a call's form gives.
+#![tactic(auto)]
+
 ghost use Rattle.std.specs.Prelude.{◌≡◌, ◌<◌, ◌≤◌};
 ghost use Rattle.model.specs.State.{totals_of};
 ghost use Rattle.model.specs.Calls.{minus_total, left_round};

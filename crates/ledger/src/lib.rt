@@ -1,4 +1,6 @@
 // Balances of sixteen members in four tokens. A call that cannot be done is refused, with the ledger unchanged.
+#![tactic(auto)]
+
 ghost use Rattle.std.specs.Prelude.{◌≡◌, ◌<◌};
 ghost use Rattle.units.specs.Counts.{amount};
 ghost use Rattle.ledger.specs.Balances.{row_of, with_row, cell_of, fresh_ledger};
@@ -20,20 +22,20 @@ const LAST_MEMBER: u32 = 15;
 const LAST_TOKEN: u32 = 3;
 
 // One member's balances, by token.
-#[derive(Drop)]
+#[derive(Clone, Copy)]
 pub struct Row {
     pub cells: [Amount; 4],
 }
 
 // Sixteen members' rows.
-#[derive(Drop)]
+#[derive(Clone, Copy)]
 pub struct Ledger {
     pub rows: [Row; 16],
 }
 
 // Why a ledger call is refused: a balance would pass 4,294,967,295 (TooLarge) or is below the amount (TooSmall), or there is
 // no such place.
-#[derive(Drop)]
+#[derive(Clone, Copy)]
 pub enum Fault {
     NoSuchMember,
     NoSuchToken,
@@ -42,21 +44,21 @@ pub enum Fault {
 }
 
 // What a ledger call answers: the balance, or why it is refused.
-#[derive(Drop)]
+#[derive(Clone, Copy)]
 pub enum Entry {
     Done(Amount),
     Failed(Fault),
 }
 
 // The answer, and the ledger after the call.
-#[derive(Drop)]
+#[derive(Clone, Copy)]
 pub struct Posting {
     pub entry: Entry,
     pub ledger: Ledger,
 }
 
 // The answer, and the row after the call.
-#[derive(Drop)]
+#[derive(Clone, Copy)]
 pub struct RowPosting {
     pub entry: Entry,
     pub row: Row,

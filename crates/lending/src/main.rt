@@ -8,6 +8,8 @@
 // - Its number is even, and it is a call: it is made by step_lent, and its answer line is printed.
 // - It is taken by take_line_lent, into 35 bytes; where its number divided by 8 leaves 1, into as many as the quotient leaves divided by 32. The answer line is printed;
 //   where it does not fit, one that tells 21.
+#![tactic(auto)]
+
 ghost use Rattle.std.specs.Prelude.{◌≡◌, ◌++◌, ◌<◌, ◌≤◌, length, take, drop};
 ghost use Rattle.decimal.specs.Buffer.{put_into};
 ghost use Rattle.model.specs.Run.{Reachable, step_of};
@@ -38,7 +40,7 @@ const MOST_PLACES: u32 = 65;
 const LARGEST: u32 = 4_294_967_295;
 
 // A list call's own answer, the places after it and the state after it.
-#[derive(Drop)]
+#[derive(Clone, Copy)]
 struct ListOutcome {
     answer: Answer,
     places: [AnswerPlace; 65],
@@ -46,7 +48,7 @@ struct ListOutcome {
 }
 
 // The exchange, and the orders gathered for the next list call: the first count of the list.
-#[derive(Drop)]
+#[derive(Clone, Copy)]
 struct Host {
     exchange: Exchange,
     count: usize,
@@ -54,21 +56,21 @@ struct Host {
 }
 
 // The host after a line, and whether what it answers was written.
-#[derive(Drop)]
+#[derive(Clone, Copy)]
 struct Turn {
     host: Host,
     written: bool,
 }
 
 // How many places a line asks for, where it is a list call.
-#[derive(Drop)]
+#[derive(Clone, Copy)]
 enum Asked {
     Places(u32),
     NoList,
 }
 
 // How many bytes were read, and whether a read failed.
-#[derive(Drop)]
+#[derive(Clone, Copy)]
 struct Input {
     count: usize,
     failed: bool,

@@ -1,4 +1,6 @@
 // The state lent to the call: a host keeps one exchange; each function takes it by &mut, makes the call by value and stores the state after it.
+#![tactic(auto)]
+
 ghost use Rattle.std.specs.Prelude.{◌≡◌, ◌≤◌, length};
 ghost use Rattle.decimal.specs.Buffer.{put_into};
 ghost use Rattle.lines.specs.AnswerText.{longest_answer};

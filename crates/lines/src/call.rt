@@ -7,14 +7,14 @@ use fields::{Fields, read_fields};
 use model::call::Call;
 
 // A line read: the call that it is, or no call (20).
-#[derive(Drop)]
+#[derive(Clone, Copy)]
 pub enum Reading {
     Read(Call),
     NoCall,
 }
 
 // A line of an input, and the place where it ends: that of its byte 10, or the input's end.
-#[derive(Drop)]
+#[derive(Clone, Copy)]
 pub struct LineAt {
     pub reading: Reading,
     pub end: usize,

@@ -3,7 +3,7 @@ ghost use Rattle.std.specs.Prelude.{◌≡◌, ◌++◌, ◌≤◌, length, take
 ghost use Rattle.lines.specs.Kept.{kept_bytes};
 
 // A line that has begun: its first bytes, at most 81.
-#[derive(Drop)]
+#[derive(Clone, Copy)]
 pub struct Kept {
     pub len: usize,
     pub line: [u8; 81],

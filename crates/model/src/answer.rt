@@ -5,7 +5,7 @@ ghost use Rattle.model.specs.Answers.{refusal_code, code_of, first_of, second_of
 use crate::state::Exchange;
 
 // Why a call is turned down: one case for each code from 1 to 22, in their order.
-#[derive(Drop)]
+#[derive(Clone, Copy)]
 pub enum Refusal {
     NoSuchMember,
     NoSuchToken,
@@ -32,14 +32,14 @@ pub enum Refusal {
 }
 
 // Accepted with its two numbers, or refused: "Code 0 is acceptance".
-#[derive(Drop)]
+#[derive(Clone, Copy)]
 pub enum Answer {
     Accepted(u32, u32),
     Refused(Refusal),
 }
 
 // An answer, and the state after it.
-#[derive(Drop)]
+#[derive(Clone, Copy)]
 pub struct Outcome {
     pub answer: Answer,
     pub exchange: Exchange,

@@ -1,5 +1,5 @@
 // The calls, in the order of their kind numbers, each with its fields in the paper's order.
-#[derive(Drop)]
+#[derive(Clone, Copy)]
 pub enum Call {
     Deposit {
         member: u32,

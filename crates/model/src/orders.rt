@@ -2,7 +2,7 @@
 use crate::answer::Answer;
 
 // An order of the list: the fields of kind 3, in the paper's order.
-#[derive(Drop)]
+#[derive(Clone, Copy)]
 pub struct OrderFields {
     pub ticket: u32,
     pub member: u32,
@@ -13,7 +13,7 @@ pub struct OrderFields {
 }
 
 // A place of the list of answers.
-#[derive(Drop)]
+#[derive(Clone, Copy)]
 pub struct AnswerPlace {
     pub answer: Answer,
 }

@@ -7,7 +7,7 @@ use pricing::{Side, Totals};
 use units::{Amount, Block, Price};
 
 // An order: who offers what, in which market, and at which limit; offer is what is left of it.
-#[derive(Drop)]
+#[derive(Clone, Copy)]
 pub struct Order {
     pub member: u32,
     pub market: u32,
@@ -17,7 +17,7 @@ pub struct Order {
 }
 
 // "A ticket is free, resting, or in a round, and one in use carries its order".
-#[derive(Drop)]
+#[derive(Clone, Copy)]
 pub enum TicketState {
     Free,
     Resting(Order),
@@ -25,7 +25,7 @@ pub enum TicketState {
 }
 
 // One of the 64 tickets.
-#[derive(Drop)]
+#[derive(Clone, Copy)]
 pub struct Ticket {
     pub state: TicketState,
 }
@@ -33,7 +33,7 @@ pub struct Ticket {
 // A round from its open on. reference, hi and lo are its prices, length its auction's blocks, opened and start the blocks
 // of its open and its match (0 before it), tickets the set of its tickets, buys and sells its sides (their totals are the
 // paper's Q and S), quote and base what it holds.
-#[derive(Drop)]
+#[derive(Clone, Copy)]
 pub struct Round {
     pub reference: Price,
     pub hi: Price,
@@ -49,7 +49,7 @@ pub struct Round {
 }
 
 // "Phase: closed, collect, auction, paying"; a closed market has no numbers.
-#[derive(Drop)]
+#[derive(Clone, Copy)]
 pub enum Phase {
     Closed,
     Collect(Round),
@@ -58,14 +58,14 @@ pub enum Phase {
 }
 
 // One of the markets 1 to 3.
-#[derive(Drop)]
+#[derive(Clone, Copy)]
 pub struct Market {
     pub phase: Phase,
 }
 
 // supply is deposits less withdrawals by token, residue (the paper's tray) what rounding left by token; market n stands at
 // place n - 1; last is the last block accepted.
-#[derive(Drop)]
+#[derive(Clone, Copy)]
 pub struct Exchange {
     pub ledger: Ledger,
     pub supply: [Amount; 4],

@@ -1,5 +1,7 @@
 // Runs the number writers as compiled code: numbers of every length, into parts of up to one byte more than the longest. It prints a line for each: the
 // bytes of the part after the call, # where nothing was written; a comma; and the answer. Its stored output is the second engine's (tests/stored).
+#![tactic(auto)]
+
 ghost use Rattle.std.specs.Prelude.{◌+◌, ◌≤◌, length};
 
 use decimal::{put_number, wide, write_field};

@@ -1,4 +1,6 @@
 // A morning's orders at once (document 02, L5): a lent list of orders, each handed to the single-order call, and a lent list that takes their answers.
+#![tactic(auto)]
+
 ghost use Rattle.std.specs.Prelude.{◌≡◌};
 ghost use Rattle.model.specs.Run.{Reachable};
 ghost use Rattle.model.specs.OrderLists.{orders_of};
@@ -13,7 +15,7 @@ use model::state::Exchange;
 const MOST_ORDERS: usize = 64;
 
 // An order's answer in its place, and the state after it.
-#[derive(Drop)]
+#[derive(Clone, Copy)]
 struct PlacedOne {
     place: AnswerPlace,
     exchange: Exchange,

@@ -1,18 +1,20 @@
 // Parts of the state that one call touches. A call's work takes them out, answers, and gives them back to be put in place.
+#![tactic(auto)]
+
 use ledger::Row;
 use model::answer::{Answer, Refusal};
 use model::state::{Market, Ticket};
 use units::{Amount, Block};
 
 // What a call's numbers alone say of it: Good, or the first refusal among those that look at no state.
-#[derive(Drop)]
+#[derive(Clone, Copy)]
 pub enum Form {
     Good,
     Bad(Refusal),
 }
 
 // Deposit and withdraw: a member's row and a token's supply.
-#[derive(Drop)]
+#[derive(Clone, Copy)]
 pub struct Banked {
     pub answer: Answer,
     pub row: Row,
@@ -20,7 +22,7 @@ pub struct Banked {
 }
 
 // Order and cancel: a member's row and a ticket.
-#[derive(Drop)]
+#[derive(Clone, Copy)]
 pub struct Placed {
     pub answer: Answer,
     pub row: Row,
@@ -28,7 +30,7 @@ pub struct Placed {
 }
 
 // Open, match and settle: a market and the last block.
-#[derive(Drop)]
+#[derive(Clone, Copy)]
 pub struct Moved {
     pub answer: Answer,
     pub market: Market,
@@ -36,7 +38,7 @@ pub struct Moved {
 }
 
 // Enter and leave: a ticket and its market.
-#[derive(Drop)]
+#[derive(Clone, Copy)]
 pub struct Joined {
     pub answer: Answer,
     pub ticket: Ticket,
@@ -44,7 +46,7 @@ pub struct Joined {
 }
 
 // Bid: a market, the maker's row and the last block.
-#[derive(Drop)]
+#[derive(Clone, Copy)]
 pub struct Traded {
     pub answer: Answer,
     pub market: Market,
@@ -53,7 +55,7 @@ pub struct Traded {
 }
 
 // Claim: a ticket, its market, its member's row, and the residue of the market's two tokens.
-#[derive(Drop)]
+#[derive(Clone, Copy)]
 pub struct Claimed {
     pub answer: Answer,
     pub ticket: Ticket,

@@ -9,6 +9,8 @@
 // - 6                       the books made fresh
 // For each line its number, the code and the amount that the call answers are printed, as 1,0,250 and byte 10. 6 answers 0 and 0; any other line, and one that is longer
 // than 80 bytes or no numbers, answers 20 and 0. A refusal leaves the books.
+#![tactic(auto)]
+
 ghost use Rattle.std.specs.Prelude.{◌≡◌, true, ◌≤◌, ◌<◌, length};
 ghost use Rattle.decimal.specs.Buffer.{put_at};
 ghost use Rattle.fields.specs.Grammar.{line_numbers};
@@ -38,14 +40,14 @@ use units::Amount;
 const LONGEST_LINE: usize = 80;
 
 // A ledger, and one row apart from it.
-#[derive(Drop)]
+#[derive(Clone, Copy)]
 struct Books {
     ledger: Ledger,
     row: Row,
 }
 
 // What a line answers, and the books after it.
-#[derive(Drop)]
+#[derive(Clone, Copy)]
 struct Posted {
     code: u32,
     amount: u32,

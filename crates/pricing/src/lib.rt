@@ -1,4 +1,6 @@
 // Prices and shares of a round: bounds, the trade within, auction prices, quotes, and a ticket's share.
+#![tactic(auto)]
+
 ghost use Rattle.std.specs.Prelude.{◌≡◌, ◌*◌, ◌≤◌, min, eqb, leb, ltb};
 ghost use Rattle.units.specs.Ranges.{highest_reference, highest_slack};
 ghost use Rattle.units.specs.Counts.{price, largest, million};
@@ -25,14 +27,14 @@ const MILLION: u32 = 1_000_000;
 const PRICE_STEP: u64 = 100;
 
 // The side of an order: a buy (0) offers quote, a sell (1) offers base.
-#[derive(Drop)]
+#[derive(Clone, Copy)]
 pub enum Side {
     Buy,
     Sell,
 }
 
 // One side of a round: what entered, what it paid and what it got.
-#[derive(Drop)]
+#[derive(Clone, Copy)]
 pub struct Totals {
     pub total: Amount,
     pub paid: Amount,
@@ -40,21 +42,21 @@ pub struct Totals {
 }
 
 // What buys and sells trade with each other: base for quote.
-#[derive(Drop)]
+#[derive(Clone, Copy)]
 pub struct Trade {
     pub base: Amount,
     pub quote: Amount,
 }
 
 // What one ticket pays and gets.
-#[derive(Drop)]
+#[derive(Clone, Copy)]
 pub struct Share {
     pub paid: Amount,
     pub got: Amount,
 }
 
 // The quote for some base. It can pass 32 bits, so it is an amount only where it is known to be one.
-#[derive(Drop)]
+#[derive(Clone, Copy)]
 pub struct Quote(pub u64);
 
 impl Quote {

@@ -14,14 +14,14 @@ use model::answer::{Answer, Outcome, Refusal};
 use model::state::Exchange;
 
 // A line's answer, and how many bytes its answer line took.
-#[derive(Drop)]
+#[derive(Clone, Copy)]
 pub struct Answered {
     pub answer: Answer,
     pub used: usize,
 }
 
 // What is answered, and the state after it.
-#[derive(Drop)]
+#[derive(Clone, Copy)]
 pub struct Taken {
     pub answered: Answered,
     pub exchange: Exchange,

@@ -1,5 +1,7 @@
 // Open and match on the parts that they touch. Public for the crates above; what they ask of their parts holds of the parts of every
 // reachable state, and what they ask of numbers is what a call's form gives.
+#![tactic(auto)]
+
 ghost use Rattle.std.specs.Prelude.{◌≡◌, ◌<◌, ◌≤◌};
 ghost use Rattle.units.specs.Ranges.{highest_reference, highest_slack};
 ghost use Rattle.model.specs.State.{is_closed};

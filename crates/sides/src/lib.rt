@@ -1,5 +1,7 @@
 // Readers of a side, of its totals and tokens, and of the places that a ticket's order names. Token 0 is the quote, and market n's base is token n.
 // Public for the crates above.
+#![tactic(auto)]
+
 ghost use Rattle.std.specs.Prelude.{◌≡◌};
 ghost use Rattle.units.specs.Counts.{amount};
 ghost use Rattle.model.specs.Sides.{side_of, by_side, offered, wanted};

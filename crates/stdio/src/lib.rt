@@ -1,6 +1,8 @@
 // Reads and writes that try again where the system asks for it. A call that a signal interrupts (EINTR) is tried again at once, one on a
 // descriptor that does not block (EAGAIN) after a wait. Any other error is the caller's: errno still names it. A proved loop has to end, so
 // one that only waits counts its turns down from a number that no run uses up.
+#![tactic(auto)]
+
 ghost use Rattle.std.specs.Prelude.{◌≡◌, ◌≤◌, ◌-◌, length, replicate};
 ghost use Rattle.libc.specs.Io.{Moved};
 ghost use Rattle.stdio.specs.Passing.{passes};
@@ -9,7 +11,7 @@ use libc::types::timespec;
 use libc::{STDERR_FILENO, STDIN_FILENO};
 
 // How many bytes were read, and whether a read failed.
-#[derive(Drop)]
+#[derive(Clone, Copy)]
 struct Input {
     count: usize,
     failed: bool,

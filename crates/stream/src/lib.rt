@@ -1,4 +1,6 @@
 // A day's bytes taken as they come, in pieces of any size.
+#![tactic(auto)]
+
 ghost use Rattle.std.specs.Prelude.{◌≡◌, ◌≤◌, ◌<◌, length, take};
 ghost use Rattle.decimal.specs.Buffer.{put_into, put_count};
 ghost use Rattle.lines.specs.AnswerText.{longest_answer};

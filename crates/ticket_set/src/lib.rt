@@ -1,9 +1,11 @@
 // A set of the tickets 0 to 63 in a u64: a round's marks, one bit for each ticket.
+#![tactic(auto)]
+
 ghost use Rattle.std.specs.Prelude.{◌≡◌, ◌<◌};
 ghost use Rattle.ticket_set.specs.TicketSet.{has_ticket, inserted, removed, count_of, next_of};
 
 // What a search for the least member finds.
-#[derive(Drop)]
+#[derive(Clone, Copy)]
 pub enum Next {
     At(u32),
     Nothing,

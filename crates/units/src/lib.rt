@@ -1,4 +1,6 @@
 // The three sorts of count, each with its own operations, so that no two sorts mix; and division rounded down and up.
+#![tactic(auto)]
+
 ghost use Rattle.std.specs.Prelude.{◌≡◌, ◌+◌, ◌-◌, ◌*◌, ◌<◌, ◌≤◌, eqb, ltb};
 ghost use Rattle.units.specs.Counts.{largest};
 ghost use Rattle.units.specs.Rounding.{down, up};
@@ -7,7 +9,7 @@ ghost use Rattle.units.specs.Rounding.{down, up};
 const LARGEST: u64 = 4_294_967_295;
 
 // A count of token units.
-#[derive(Drop)]
+#[derive(Clone, Copy)]
 pub struct Amount(pub u32);
 
 impl Amount {
@@ -50,7 +52,7 @@ impl Amount {
 }
 
 // Millionths of a quote unit per base unit.
-#[derive(Drop)]
+#[derive(Clone, Copy)]
 pub struct Price(pub u32);
 
 impl Price {
@@ -63,7 +65,7 @@ impl Price {
 }
 
 // A block number.
-#[derive(Drop)]
+#[derive(Clone, Copy)]
 pub struct Block(pub u32);
 
 impl Block {

@@ -1,4 +1,6 @@
 // What hosts in C and in Rust call: a whole day, bytes in and bytes out, and a call's line written.
+#![tactic(auto)]
+
 ghost use Rattle.std.specs.Prelude.{◌≡◌, ◌∷◌, ◌≤◌, length};
 ghost use Rattle.decimal.specs.Buffer.{put_at, put_into, put_from};
 ghost use Rattle.lines.specs.AnswerText.{header as AnswerText·header};
