@@ -1,5 +1,5 @@
-//! Borders that lines may meet, each counted under its name: for the tools
-//! coverage, lending and postings.
+//! Borders that lines may meet, each counted under its name: for the tool
+//! postings.
 
 use std::collections::BTreeMap;
 use std::io::{self, Write};

@@ -574,59 +574,47 @@ impl Drafts {
     }
 
     fn bad_member(&mut self) -> u64 {
-        match self.chance.below(8) {
-            0 | 1 => 16,
-            2 => self.chance.pick(&[17, 31, 32, 255, 256, 65_536]),
-            _ => self.far_above(15),
+        match self.chance.below(3) {
+            0 => 16,
+            1 => self.chance.pick(&[17, 31, 32, 255, 256, 65_536, MOST]),
+            _ => 15 + self.chance.any_size(MOST - 15),
         }
     }
 
     fn bad_token(&mut self) -> u64 {
-        match self.chance.below(5) {
+        match self.chance.below(3) {
             0 | 1 => 4,
-            _ => self.far_above(3),
+            _ => 3 + self.chance.any_size(MOST - 3),
         }
     }
 
     fn bad_market(&mut self) -> u64 {
-        match self.chance.below(6) {
-            0 => 0,
-            1 => 4,
-            _ => self.far_above(3),
+        match self.chance.below(5) {
+            0 | 1 => 0,
+            2 | 3 => 4,
+            _ => 3 + self.chance.any_size(MOST - 3),
         }
     }
 
     fn bad_ticket(&mut self) -> u64 {
-        match self.chance.below(5) {
+        match self.chance.below(3) {
             0 | 1 => 64,
-            _ => self.far_above(63),
+            _ => 63 + self.chance.any_size(MOST - 63),
         }
     }
 
     fn bad_side(&mut self) -> u64 {
-        match self.chance.below(6) {
+        match self.chance.below(3) {
             0 | 1 => 2,
-            2 | 3 => 3,
-            _ => self.far_above(3),
+            _ => 1 + self.chance.any_size(MOST - 1),
         }
     }
 
     fn bad_limit(&mut self) -> u64 {
-        match self.chance.below(6) {
+        match self.chance.below(3) {
             0 => 0,
             1 => 2_000_000_001,
-            2 => MOST,
-            3 => 3_000_000_000,
             _ => 2_000_000_000 + self.chance.any_size(MOST - 2_000_000_000),
-        }
-    }
-
-    /// A number above the highest of its range, often far above.
-    fn far_above(&mut self, highest: u64) -> u64 {
-        match self.chance.below(3) {
-            0 => 1_000,
-            1 => MOST,
-            _ => highest + self.chance.any_size(MOST - highest),
         }
     }
 
@@ -856,11 +844,10 @@ impl Drafts {
                 if most < self.last() {
                     return None;
                 }
-                f[1] = match self.chance.below(3) {
+                f[1] = match self.chance.below(2) {
                     0 => most,
                     _ => self.chance.between(self.last(), most),
-                }
-                .min(MOST);
+                };
             }
         }
         if code < 12 && self.also() {
@@ -888,11 +875,10 @@ impl Drafts {
                 if end < self.last() {
                     return None;
                 }
-                f[1] = match self.chance.below(3) {
+                f[1] = match self.chance.below(2) {
                     0 => end,
                     _ => self.chance.between(self.last(), end),
-                }
-                .min(MOST);
+                };
             }
         }
         if code < 12 && self.also() {
@@ -976,16 +962,11 @@ impl Drafts {
         if code == 18 {
             let side = draft.f[3];
             let [quote, unstepped] = self.bid_quotes(draft);
-            // Missed by a unit, by many, and as far as can be.
-            let sizes = [1_000, MILLION, self.chance.any_size(MOST)];
-            let many = self.chance.pick(&sizes);
-            draft.f[5] = match (self.chance.below(5), side) {
+            draft.f[5] = match (self.chance.below(3), side) {
                 (0, _) if unstepped != quote => unstepped.min(MOST),
                 (0 | 1, 1) => (quote - 1).min(MOST),
                 (0 | 1, _) => (quote + 1).min(MOST),
-                (2 | 3, 1) => quote.saturating_sub(many).min(MOST),
-                (2 | 3, _) => (quote + many).min(MOST),
-                (_, 1) => 0,
+                (_, 1) => self.chance.below(quote.min(MOST)),
                 (_, _) => MOST,
             };
             if self.also() {

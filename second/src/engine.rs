@@ -306,17 +306,6 @@ impl Exchange {
         self.last_block
     }
 
-    /// How many tickets a market's round marks, and the lowest of them, 0 where
-    /// it marks none: the next to be claimed. 3 where there is no such market.
-    pub fn next_marked(&self, market: u32) -> Answer {
-        if !is_market(market) {
-            return Answer::refused(3);
-        }
-        let marks = self.markets[market as usize - 1].marks;
-        let marked: Vec<u64> = (0..TICKETS as u64).filter(|i| marks >> i & 1 == 1).collect();
-        Answer::accepted(marked.len() as u64, marked.first().copied().unwrap_or(0))
-    }
-
     /// Works one call.
     #[inline]
     pub fn call(&mut self, call: Call) -> Answer {

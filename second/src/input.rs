@@ -1,11 +1,9 @@
-//! A small input, read whole, and its lines: for the tools lending and
-//! postings.
+//! A small input, read whole, and its lines: for the tool postings.
 
 use std::io::{self, ErrorKind, Read, Write};
 use std::process::ExitCode;
 
-/// Most bytes of an input, and so most lines.
-pub const INPUT_MOST: u32 = 1_048_576;
+pub use crate::lending::INPUT_MOST;
 
 /// What was being done when an error came up, and the error.
 pub type Fault = (&'static str, io::Error);

@@ -1,26 +1,19 @@
 //! Lines that try lists of orders and lent buffers, for the tools lending and
 //! lists. Lines of orders are gathered, and a line `0,m` places them as a list
-//! with m places for their answers. A line `0,10,n` asks which ticket of market
-//! n is to be claimed next. A line `0,11,n` tries a fresh exchange of its own.
-//! Any other call is made without a line where the line's number is even. All
-//! else is taken as a line, for a lent buffer whose size depends on the number.
+//! with m places for their answers. Any other call is made without a line
+//! where the line's number is even. All else is taken as a line, for a lent
+//! buffer whose size depends on the number.
 
-use crate::engine::{Answer, Call, Exchange, Order};
-use crate::lines::{answer_line, read_call, read_numbers, NO_ROOM};
+use crate::engine::{Answer, Call, Exchange, Order, LIST_MOST};
+use crate::lines::{answer_line, read_after_zero, read_call, NO_ROOM};
 use std::io::{self, Write};
 
-/// Most orders that are gathered, and most places for answers: half as many
-/// again as a list may have.
-pub const GATHERED_MOST: usize = 96;
+/// Most orders that are gathered, and most places for answers: one more than a
+/// list may have.
+pub const GATHERED_MOST: usize = LIST_MOST + 1;
 
-/// The bytes of most lent buffers.
-pub const USUAL_ROOM: usize = 35;
-
-/// The second number of a line that asks for a market's next ticket.
-pub const NEXT_MARKED: u32 = 10;
-
-/// The second number of a line that tries a fresh exchange.
-pub const FRESH: u32 = 11;
+/// Most bytes of an input, and so most lines.
+pub const INPUT_MOST: u32 = 1_048_576;
 
 /// What became of a line.
 pub enum Taken {
@@ -29,11 +22,6 @@ pub enum Taken {
     List { asked: u32, orders: Vec<Order>, before: Vec<Answer>, after: Vec<Answer>, answer: Answer },
     /// An order was gathered.
     Gathered,
-    /// The number of tickets that a market's round marks, and the lowest.
-    Next { market: u32, answer: Answer },
-    /// The answers of a fresh exchange to a deposit of an amount and to a
-    /// withdrawal of 1, and its answer line to the line itself.
-    Fresh { amount: u32, deposit: Answer, withdrawal: Answer, line: Vec<u8> },
     /// A call was made without a line.
     Plain(Call, Answer),
     /// A line was taken, be it a call or not, for a lent buffer of so many
@@ -54,14 +42,7 @@ impl Taken {
                 Ok(())
             }
             Taken::Gathered => Ok(()),
-            Taken::Plain(_, answer) | Taken::Next { answer, .. } => {
-                print_answer(number, *answer, output)
-            }
-            Taken::Fresh { deposit, withdrawal, line, .. } => {
-                print_answer(number, *deposit, output)?;
-                print_answer(number, *withdrawal, output)?;
-                output.write_all(line)
-            }
+            Taken::Plain(_, answer) => print_answer(number, *answer, output),
             Taken::Line { code: NO_ROOM, .. } => {
                 print_answer(number, Answer::refused(NO_ROOM), output)
             }
@@ -80,20 +61,8 @@ pub fn room_of(number: u32) -> usize {
     if number % 8 == 1 {
         (number / 8 % 32) as usize
     } else {
-        USUAL_ROOM
+        35
     }
-}
-
-/// A deposit of member 0 in a fresh exchange, a withdrawal of 1 from it, and a
-/// line that is taken there as the first one.
-fn try_fresh(amount: u32, line: &[u8]) -> Taken {
-    let mut exchange = Exchange::new();
-    let deposit = exchange.deposit(0, 0, amount);
-    let withdrawal = exchange.withdraw(0, 0, 1);
-    let mut out = vec![0; USUAL_ROOM];
-    let (_, len) = answer_line(&mut exchange, 1, read_call(line), &mut out);
-    out.truncate(len);
-    Taken::Fresh { amount, deposit, withdrawal, line: out }
 }
 
 /// The exchange, the orders gathered for it and the number of lines so far.
@@ -135,13 +104,8 @@ impl Lending {
     /// Takes the next line, given without its byte 10.
     pub fn take(&mut self, line: &[u8]) -> Taken {
         self.number += 1;
-        match read_numbers(line).as_deref() {
-            Some(&[0, asked]) => return self.place(asked),
-            Some(&[0, NEXT_MARKED, market]) => {
-                return Taken::Next { market, answer: self.exchange.next_marked(market) }
-            }
-            Some(&[0, FRESH, amount]) => return try_fresh(amount, line),
-            _ => {}
+        if let Some(asked) = read_after_zero(line) {
+            return self.place(asked);
         }
         match read_call(line) {
             Some(Call::Order { ticket, member, market, side, limit, amount })

@@ -3,10 +3,10 @@
 //! number written into a lent part (`numbers`), for the tool numbers; what
 //! must hold after every call (`books`), for the tests and the tools coverage
 //! and lending; lines that try lists of orders (`lending`), for the tools
-//! lending and lists; the ledger alone (`postings`), for the tool postings;
-//! small inputs (`input`), for the tools lending and postings; calls drawn for
-//! an exchange (`drafts`), for the tools traffic and lists; and the drawn
-//! numbers of the tools (`chance`).
+//! lending and lists; the ledger alone (`postings`), small inputs (`input`) and
+//! counted borders (`borders`), for the tool postings; calls drawn for an
+//! exchange (`drafts`), for the tools traffic and lists; and the drawn numbers
+//! of the tools (`chance`).
 
 pub mod books;
 pub mod borders;

@@ -187,6 +187,15 @@ pub fn read_numbers(line: &[u8]) -> Option<Vec<u32>> {
     fields.values.get(..fields.count).filter(|_| whole).map(<[u32]>::to_vec)
 }
 
+/// Reads a whole line of two numbers of which the first is 0, given without
+/// its byte 10: the second one.
+pub fn read_after_zero(line: &[u8]) -> Option<u32> {
+    match read_numbers(line)?[..] {
+        [0, number] => Some(number),
+        _ => None,
+    }
+}
+
 /// Reads the first line of `bytes`: the bytes it takes with its byte 10, and
 /// its call if it is one. Nothing if there is no byte 10 yet.
 #[inline]
@@ -469,6 +478,49 @@ mod tests {
             let mut padded = vec![b'0'; len];
             padded[..2].copy_from_slice(b"6,");
             no_call(&padded);
+        }
+    }
+
+    #[test]
+    fn numbers_after_a_zero() {
+        for (line, number) in [("0,0", 0), ("0,64", 64), ("0,4294967295", u32::MAX)] {
+            assert_eq!(read_after_zero(line.as_bytes()), Some(number));
+            no_call(line.as_bytes());
+        }
+        let others = [
+            "",
+            "0",
+            ",",
+            "0,",
+            ",0",
+            ",0,1",
+            "0,1,",
+            "0,,1",
+            "0,1,2",
+            "00,1",
+            "0,01",
+            "0,00",
+            "1,0",
+            "6,1",
+            "0,4294967296",
+            "0,42949672950",
+            "0,1 ",
+            " 0,1",
+            "0,1\r",
+            "0,1\0",
+            "0,-1",
+            "+0,1",
+            "0;1",
+            "4294967296,1",
+            "18446744073709551616,1",
+        ];
+        for line in others {
+            assert_eq!(read_after_zero(line.as_bytes()), None, "{line:?}");
+        }
+        for len in [79, 80, 81] {
+            let mut zeros = vec![b'0'; len];
+            zeros[1] = b',';
+            assert_eq!(read_after_zero(&zeros), None);
         }
     }
 

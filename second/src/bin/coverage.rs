@@ -5,7 +5,6 @@
 //! code that it cannot meet, it ends with status 1 after the counts and says
 //! why on standard error.
 
-use second::borders::Borders;
 use second::engine::{bid_quote, MARKETS, MILLION, MOST, STEP, TICKETS};
 use second::lines::{CODES, FIELDS, KINDS, LINE_MOST, NO_CALL};
 use second::{books, read_call, Answer, Call, Exchange, Market, Phase, Place};
@@ -13,17 +12,7 @@ use std::collections::BTreeMap;
 use std::io::{self, BufRead, BufReader, Write};
 use std::process::ExitCode;
 
-/// Numbers outside a field's range, next to it and far from it, and the code
-/// that each kind with such a field gives them.
-const RANGES: [(&str, u8, &[u32]); 5] = [
-    ("member", 1, &[16, 1_000, u32::MAX]),
-    ("token", 2, &[4, 1_000, u32::MAX]),
-    ("market", 3, &[0, 4, 1_000, u32::MAX]),
-    ("ticket", 4, &[64, 1_000, u32::MAX]),
-    ("side", 5, &[2, 3, u32::MAX]),
-];
-
-/// The other borders that are counted.
+/// Every border that is counted, so that those not met show as 0.
 const BORDERS: &[&str] = &[
     "line: empty",
     "line: 79 bytes",
@@ -58,19 +47,19 @@ const BORDERS: &[&str] = &[
     "line: call with value 4294967295",
     "member 0 taken",
     "member 15 taken",
+    "member 16 refused",
     "token 3 taken",
+    "token 4 refused",
+    "market 0 refused",
     "market 3 taken",
+    "market 4 refused",
     "ticket 0 taken",
     "ticket 63 taken",
+    "ticket 64 refused",
+    "side 2 refused",
     "limit 1 taken",
     "limit 2000000000 taken",
     "limit 2000000001 refused",
-    "limit 3000000000 refused",
-    "limit 4294967295 refused",
-    "deposit: 4294967295 at once",
-    "withdraw: 4294967295 at once",
-    "order: 4294967295",
-    "cancel: 4294967295",
     "deposit: supply to the most",
     "deposit: one above the most",
     "withdraw: balance met",
@@ -80,8 +69,6 @@ const BORDERS: &[&str] = &[
     "order: all 64 tickets in use after",
     "cancel: of a rest",
     "cancel: another's ticket in a round",
-    "cancel: a resting ticket of a member 5 or more above refused",
-    "cancel: a resting ticket of a member 5 or more below refused",
     "cancel: after a leave",
     "open: r 1",
     "open: r 1000000000",
@@ -101,16 +88,12 @@ const BORDERS: &[&str] = &[
     "enter: sell limit at lo + 1 refused",
     "enter: a rest of an earlier round",
     "enter: side total above 4000000000",
-    "enter: side total 4294967295",
     "enter: after a leave, the same round",
     "enter: after a leave, a later round",
     "enter: after a leave, limit refused",
     "enter: after a leave, its round went on",
     "match: 4 blocks after open",
     "match: 3 blocks after open refused",
-    "match: 2 blocks after open refused",
-    "match: 1 block after open refused",
-    "match: 0 blocks after open refused",
     "match: dropped",
     "match: dropped, lower rounding 0",
     "match: dropped, lo just missed",
@@ -125,12 +108,6 @@ const BORDERS: &[&str] = &[
     "match: c rounded up just hi",
     "match: three or more tickets each side",
     "match: above 2000000000",
-    "match: base and quote 4294967291",
-    "match: base and quote 4294967292",
-    "match: base and quote 4294967293",
-    "match: base and quote 4294967294",
-    "match: base and quote 4294967295",
-    "match: quote 4294967295 rounded up",
     "match: after the last ticket left",
     "match: above 0, some left and others stayed",
     "bid: side 0",
@@ -143,12 +120,6 @@ const BORDERS: &[&str] = &[
     "bid: side 0 bound missed by 1",
     "bid: side 1 bound met",
     "bid: side 1 bound missed by 1",
-    "bid: side 0 bound missed by 1000 to 999999",
-    "bid: side 1 bound missed by 1000 to 999999",
-    "bid: side 0 bound missed by 1000000 or more",
-    "bid: side 1 bound missed by 1000000 or more",
-    "bid: side 0 bound 4294967295 refused",
-    "bid: side 1 bound 0 refused",
     "bid: side 0 balance met",
     "bid: side 0 balance missed by 1",
     "bid: side 1 balance met",
@@ -158,17 +129,8 @@ const BORDERS: &[&str] = &[
     "bid: side 0 quote 0 refused",
     "bid: side 1 all base left",
     "bid: side 1 one more than left refused",
-    "bid: side 0 quote above the most refused",
     "bid: side 1 cost above the most refused",
     "bid: maker owns a ticket in the round",
-    "bid: side 0 base and quote 4294967291 to 4294967294",
-    "bid: side 1 base and quote 4294967291 to 4294967294",
-    "bid: side 0 base and quote 4294967295",
-    "bid: side 1 base and quote 4294967295",
-    "bid: start + L 4294967295",
-    "bid: start + L above 4294967295",
-    "bid: at the last block, start + L 4294967295",
-    "bid: at the last block, start + L above 4294967295",
     "bid: both sides in one round",
     "bid: after a lower rounding",
     "bid: side 0 price stepped by 1",
@@ -208,24 +170,16 @@ const BORDERS: &[&str] = &[
     "bid: side 0 quote 0 only by the step",
     "bid: side 0 quote left met only by the step",
     "bid: side 1 balance missed only by the step",
-    "settle: k 0 with some left refused",
-    "settle: k between with some left refused",
     "settle: k L with some left refused",
     "settle: k L + 1 with some left",
     "settle: nothing left before the end",
     "settle: no tickets",
     "settle: after the last ticket left",
-    "settle: at the last block with some left refused, start + L 4294967295",
-    "settle: at the last block with some left refused, start + L above 4294967295",
-    "settle: at the last block with nothing left, start + L 4294967295",
-    "settle: at the last block with nothing left, start + L above 4294967295",
     "claim: nothing sold",
     "claim: part sold",
     "claim: all sold",
     "claim: pays and gets nothing",
     "claim: above 2000000000",
-    "claim: pays and gets 4294967291 to 4294967294",
-    "claim: pays and gets 4294967295",
     "claim: some left and others stayed",
     "claim: last of its round",
     "claim: last, quote to the tray",
@@ -238,7 +192,6 @@ const BORDERS: &[&str] = &[
     "leave: last of its round",
     "leave: a rest of an earlier round",
     "leave: above 2000000000",
-    "leave: 4294967295",
     "leave: market 1",
     "leave: market 2",
     "leave: market 3",
@@ -254,8 +207,6 @@ const BORDERS: &[&str] = &[
     "leave: a free ticket",
     "leave: another's resting ticket",
     "leave: another's ticket in a round",
-    "leave: a ticket of a member 5 or more above in a round that collects refused",
-    "leave: a ticket of a member 5 or more below in a round that collects refused",
     "leave: another's ticket in auction",
     "leave: another's ticket in paying",
     "leave: again refused",
@@ -267,47 +218,8 @@ const BORDERS: &[&str] = &[
     "leave: refused while another market collects",
 ];
 
-/// The name of a number outside a field's range.
-fn range_name(kind: usize, field: &str, number: u32) -> String {
-    format!("kind {kind}: {field} {number} refused")
-}
-
-fn border_names() -> Vec<String> {
-    let mut names: Vec<String> = BORDERS.iter().map(|name| name.to_string()).collect();
-    for (kind, codes) in CODES.iter().enumerate().skip(1) {
-        for (field, _, numbers) in RANGES.iter().filter(|(_, code, _)| codes.contains(code)) {
-            names.extend(numbers.iter().map(|&number| range_name(kind, field, number)));
-        }
-    }
-    names
-}
-
-/// The field that a code of `RANGES` looks at.
-fn ranged_field(call: Call, code: u8) -> Option<u32> {
-    match (code, call) {
-        (1, Call::Deposit { member, .. } | Call::Withdraw { member, .. }) => Some(member),
-        (1, Call::Order { member, .. } | Call::Bid { member, .. }) => Some(member),
-        (1, Call::Cancel { member, .. } | Call::Leave { member, .. }) => Some(member),
-        (2, Call::Deposit { token, .. } | Call::Withdraw { token, .. }) => Some(token),
-        (3, Call::Order { market, .. } | Call::Bid { market, .. }) => Some(market),
-        (3, Call::Open { market, .. } | Call::Match { market, .. }) => Some(market),
-        (3, Call::Settle { market, .. }) => Some(market),
-        (4, Call::Order { ticket, .. } | Call::Cancel { ticket, .. }) => Some(ticket),
-        (4, Call::Enter { ticket } | Call::Claim { ticket }) => Some(ticket),
-        (4, Call::Leave { ticket, .. }) => Some(ticket),
-        (5, Call::Order { side, .. } | Call::Bid { side, .. }) => Some(side),
-        _ => None,
-    }
-}
-
-/// Whether both numbers of an answer are near the most, or just it.
-fn near_most(answer: Answer) -> [bool; 2] {
-    let [least, most] = [answer.first.min(answer.second), answer.first.max(answer.second)];
-    [least >= u32::MAX - 4 && most < u32::MAX, least == u32::MAX]
-}
-
 struct Counts {
-    borders: Borders,
+    borders: BTreeMap<&'static str, u64>,
     /// One bit for each ticket that holds the rest of an earlier round.
     rests: u64,
     /// By market, the sides that makers took in this round.
@@ -327,7 +239,7 @@ struct Counts {
 impl Counts {
     fn new() -> Counts {
         Counts {
-            borders: Borders::new(border_names()),
+            borders: BTreeMap::new(),
             rests: 0,
             bids: [[false; 2]; MARKETS],
             lowered: [false; MARKETS],
@@ -338,8 +250,10 @@ impl Counts {
         }
     }
 
-    fn add_if(&mut self, holds: bool, name: &str) {
-        self.borders.add_if(holds, name);
+    fn add_if(&mut self, holds: bool, name: &'static str) {
+        if holds {
+            *self.borders.entry(name).or_insert(0) += 1;
+        }
     }
 
     /// The same for borders that each side has, under the side's names.
@@ -405,79 +319,19 @@ impl Counts {
     fn member(&mut self, member: u32, code: u8) {
         self.add_if(code == 0 && member == 0, "member 0 taken");
         self.add_if(code == 0 && member == 15, "member 15 taken");
+        self.add_if(code == 1 && member == 16, "member 16 refused");
     }
 
     fn market(&mut self, market: u32, code: u8) {
+        self.add_if(code == 3 && market == 0, "market 0 refused");
         self.add_if(code == 0 && market == 3, "market 3 taken");
+        self.add_if(code == 3 && market == 4, "market 4 refused");
     }
 
     fn ticket(&mut self, ticket: u32, code: u8) {
         self.add_if(code == 0 && ticket == 0, "ticket 0 taken");
         self.add_if(code == 0 && ticket == 63, "ticket 63 taken");
-    }
-
-    /// A call that was refused for a number outside its range.
-    fn range(&mut self, call: Call, code: u8) {
-        let range = RANGES.iter().find(|range| range.1 == code);
-        if let Some(((field, _, numbers), number)) = range.zip(ranged_field(call, code)) {
-            let name = range_name(call.kind(), field, number);
-            self.add_if(numbers.contains(&number), &name);
-        }
-    }
-
-    /// A bid whose bound was missed, and its quote.
-    fn missed(&mut self, side: u32, quote: u64, bound: u64) {
-        let by = if side == 1 { quote.saturating_sub(bound) } else { bound.saturating_sub(quote) };
-        let borders = [
-            (by == 1, ["bid: side 0 bound missed by 1", "bid: side 1 bound missed by 1"]),
-            (
-                (1_000..MILLION).contains(&by),
-                [
-                    "bid: side 0 bound missed by 1000 to 999999",
-                    "bid: side 1 bound missed by 1000 to 999999",
-                ],
-            ),
-            (
-                by >= MILLION && quote <= MOST,
-                [
-                    "bid: side 0 bound missed by 1000000 or more",
-                    "bid: side 1 bound missed by 1000000 or more",
-                ],
-            ),
-        ];
-        self.add_sides(side, &borders);
-        self.add_if(side == 0 && bound == MOST, "bid: side 0 bound 4294967295 refused");
-        self.add_if(side == 1 && bound == 0, "bid: side 1 bound 0 refused");
-    }
-
-    /// An accepted bid in an auction that goes on to the last block.
-    fn last_bid(&mut self, round: &Market, block: u32) {
-        let end = u64::from(round.start) + u64::from(round.length);
-        self.add_if(end == MOST, "bid: start + L 4294967295");
-        self.add_if(end > MOST, "bid: start + L above 4294967295");
-        if u64::from(block) == MOST {
-            self.add_if(end == MOST, "bid: at the last block, start + L 4294967295");
-            self.add_if(end > MOST, "bid: at the last block, start + L above 4294967295");
-        }
-    }
-
-    /// A settle at the last block of an auction that goes on to it: accepted
-    /// with nothing left, or refused with some.
-    fn last_settle(&mut self, round: &Market, some: bool) {
-        let end = u64::from(round.start) + u64::from(round.length);
-        let [at, above] = if some {
-            [
-                "settle: at the last block with some left refused, start + L 4294967295",
-                "settle: at the last block with some left refused, start + L above 4294967295",
-            ]
-        } else {
-            [
-                "settle: at the last block with nothing left, start + L 4294967295",
-                "settle: at the last block with nothing left, start + L above 4294967295",
-            ]
-        };
-        self.add_if(end == MOST, at);
-        self.add_if(end > MOST, above);
+        self.add_if(code == 4 && ticket == 64, "ticket 64 refused");
     }
 
     /// How an accepted match rounded, from the round before it: whether it kept
@@ -640,12 +494,11 @@ impl Counts {
         let code = answer.code;
         let taken = code == 0;
         let last = u64::from(was.last_block());
-        self.range(call, code);
         match call {
             Call::Deposit { member, token, amount } => {
                 self.member(member, code);
                 self.add_if(taken && token == 3, "token 3 taken");
-                self.add_if(taken && amount == u32::MAX, "deposit: 4294967295 at once");
+                self.add_if(code == 2 && token == 4, "token 4 refused");
                 if taken || code == 14 {
                     let sum = was.supply()[token as usize] + u64::from(amount);
                     self.add_if(sum == MOST, "deposit: supply to the most");
@@ -655,7 +508,7 @@ impl Counts {
             Call::Withdraw { member, token, amount } => {
                 self.member(member, code);
                 self.add_if(taken && token == 3, "token 3 taken");
-                self.add_if(taken && amount == u32::MAX, "withdraw: 4294967295 at once");
+                self.add_if(code == 2 && token == 4, "token 4 refused");
                 if taken || code == 19 {
                     let balance = was.balances()[member as usize][token as usize];
                     let amount = u64::from(amount);
@@ -667,13 +520,11 @@ impl Counts {
                 self.member(member, code);
                 self.market(market, code);
                 self.ticket(ticket, code);
+                self.add_if(code == 5 && side == 2, "side 2 refused");
                 self.add_if(taken && limit == 1, "limit 1 taken");
                 self.add_if(taken && limit == 2_000_000_000, "limit 2000000000 taken");
-                let high = code == 6 && amount > 0;
-                self.add_if(high && limit == 2_000_000_001, "limit 2000000001 refused");
-                self.add_if(high && limit == 3_000_000_000, "limit 3000000000 refused");
-                self.add_if(high && limit == u32::MAX, "limit 4294967295 refused");
-                self.add_if(taken && amount == u32::MAX, "order: 4294967295");
+                let high = code == 6 && amount > 0 && limit == 2_000_000_001;
+                self.add_if(high, "limit 2000000001 refused");
                 if taken || code == 19 {
                     let token = if side == 0 { 0 } else { market as usize };
                     let balance = was.balances()[member as usize][token];
@@ -694,19 +545,10 @@ impl Counts {
                     self.add_if(self.rests >> ticket & 1 == 1, "cancel: of a rest");
                     self.add_if(self.left[ticket as usize] > 0, "cancel: after a leave");
                     self.left[ticket as usize] = 0;
-                    self.add_if(answer.first == u32::MAX, "cancel: 4294967295");
                 }
                 if code == 8 {
-                    let held = was.tickets()[ticket as usize];
-                    let in_round = held.place == Place::Round;
+                    let in_round = was.tickets()[ticket as usize].place == Place::Round;
                     self.add_if(in_round, "cancel: another's ticket in a round");
-                    let resting = held.place == Place::Resting;
-                    let above = resting && held.member >= member + 5;
-                    let name = "cancel: a resting ticket of a member 5 or more above refused";
-                    self.add_if(above, name);
-                    let below = resting && member >= held.member + 5;
-                    let name = "cancel: a resting ticket of a member 5 or more below refused";
-                    self.add_if(below, name);
                 }
             }
             Call::Open { market, block, reference, slack, length } => {
@@ -768,7 +610,6 @@ impl Counts {
                     let rest = self.rests >> ticket & 1 == 1;
                     self.add_if(rest, "enter: a rest of an earlier round");
                     self.add_if(answer.first > 4_000_000_000, "enter: side total above 4000000000");
-                    self.add_if(answer.first == u32::MAX, "enter: side total 4294967295");
                 }
             }
             Call::Match { market, block } => {
@@ -778,9 +619,6 @@ impl Counts {
                     let since = block - round.opened;
                     self.add_if(since == 4, "match: 4 blocks after open");
                     self.add_if(since == 3, "match: 3 blocks after open refused");
-                    self.add_if(since == 2, "match: 2 blocks after open refused");
-                    self.add_if(since == 1, "match: 1 block after open refused");
-                    self.add_if(since == 0, "match: 0 blocks after open refused");
                     if taken {
                         let mut tickets = [0; 2];
                         let mut at_bound = [false; 2];
@@ -800,13 +638,6 @@ impl Counts {
                         self.add_if(many, "match: three or more tickets each side");
                         let large = answer.first > 2_000_000_000 && answer.second > 2_000_000_000;
                         self.add_if(large, "match: above 2000000000");
-                        if answer.first == answer.second && answer.first >= u32::MAX - 4 {
-                            let name = format!("match: base and quote {}", answer.first);
-                            self.add_if(true, &name);
-                        }
-                        let up = u64::from(answer.first) * round.reference % MILLION > 0;
-                        let up = up && answer.second == u32::MAX;
-                        self.add_if(up, "match: quote 4294967295 rounded up");
                         let leavers = &mut self.leavers[market as usize - 1];
                         *leavers &= !round.marks;
                         let left = *leavers > 0;
@@ -820,6 +651,7 @@ impl Counts {
             Call::Bid { market, member, block, side, base, bound } => {
                 self.member(member, code);
                 self.market(market, code);
+                self.add_if(code == 5 && side == 2, "side 2 refused");
                 if !taken && code < 16 {
                     return;
                 }
@@ -835,12 +667,11 @@ impl Counts {
                 let base = u64::from(base);
                 let bound = u64::from(bound);
                 let balances = was.balances()[member as usize];
-                if code == 18 {
-                    self.missed(side, quote, bound);
-                }
                 if side == 0 {
                     let met = quote == bound && taken;
                     self.add_if(met, "bid: side 0 bound met");
+                    let missed = quote + 1 == bound && code == 18;
+                    self.add_if(missed, "bid: side 0 bound missed by 1");
                     let balance = balances[market as usize];
                     self.add_if(taken && balance == base, "bid: side 0 balance met");
                     let missed = code == 19 && balance + 1 == base;
@@ -849,11 +680,11 @@ impl Counts {
                     let above = code == 17 && quote == left + 1;
                     self.add_if(above, "bid: side 0 one more than left refused");
                     self.add_if(code == 17 && quote == 0, "bid: side 0 quote 0 refused");
-                    let above = code == 17 && quote > MOST;
-                    self.add_if(above, "bid: side 0 quote above the most refused");
                 } else {
                     let met = quote == bound && taken;
                     self.add_if(met, "bid: side 1 bound met");
+                    let missed = quote == bound + 1 && code == 18;
+                    self.add_if(missed, "bid: side 1 bound missed by 1");
                     self.add_if(taken && balances[0] == quote, "bid: side 1 balance met");
                     let missed = code == 19 && balances[0] + 1 == quote;
                     self.add_if(missed, "bid: side 1 balance missed by 1");
@@ -865,25 +696,6 @@ impl Counts {
                 }
                 if taken {
                     self.price(&round, side, k);
-                    self.last_bid(&round, block);
-                    let [near, just] = near_most(answer);
-                    let borders = [
-                        (
-                            near,
-                            [
-                                "bid: side 0 base and quote 4294967291 to 4294967294",
-                                "bid: side 1 base and quote 4294967291 to 4294967294",
-                            ],
-                        ),
-                        (
-                            just,
-                            [
-                                "bid: side 0 base and quote 4294967295",
-                                "bid: side 1 base and quote 4294967295",
-                            ],
-                        ),
-                    ];
-                    self.add_sides(side, &borders);
                     self.add_if(side == 0, "bid: side 0");
                     self.add_if(side == 1, "bid: side 1");
                     self.add_if(k == 0, "bid: k 0");
@@ -906,15 +718,8 @@ impl Counts {
                 let round = was.markets()[market as usize - 1];
                 let k = block - round.start;
                 let some = round.halves[0].left() + round.halves[1].left() > 0;
-                let at_start = code == 13 && k == 0;
-                self.add_if(at_start, "settle: k 0 with some left refused");
-                let between = code == 13 && k > 0 && k < round.length;
-                self.add_if(between, "settle: k between with some left refused");
                 let at_end = code == 13 && k == round.length;
                 self.add_if(at_end, "settle: k L with some left refused");
-                if u64::from(block) == MOST {
-                    self.last_settle(&round, some);
-                }
                 let after = taken && some && k == round.length + 1;
                 self.add_if(after, "settle: k L + 1 with some left");
                 let done = taken && !some && k <= round.length && round.marks != 0;
@@ -944,9 +749,6 @@ impl Counts {
                 self.add_if(answer.first > 0 && answer.second == 0, "claim: pays and gets nothing");
                 let large = answer.first > 2_000_000_000 || answer.second > 2_000_000_000;
                 self.add_if(large, "claim: above 2000000000");
-                let [near, just] = near_most(answer);
-                self.add_if(near, "claim: pays and gets 4294967291 to 4294967294");
-                self.add_if(just, "claim: pays and gets 4294967295");
                 self.add_if(self.leavers[place] > 0, "claim: some left and others stayed");
                 if is.markets()[place].phase == Phase::Closed {
                     let quote = is.tray()[0] - was.tray()[0];
@@ -982,15 +784,6 @@ impl Counts {
                     let resting = held.place == Place::Resting;
                     self.add_if(resting, "leave: another's resting ticket");
                     self.add_if(!resting, "leave: another's ticket in a round");
-                    let collects = !resting && round.phase == Phase::Collect;
-                    let above = collects && held.member >= member + 5;
-                    let name = "leave: a ticket of a member 5 or more above in a round that \
-                        collects refused";
-                    self.add_if(above, name);
-                    let below = collects && member >= held.member + 5;
-                    let name = "leave: a ticket of a member 5 or more below in a round that \
-                        collects refused";
-                    self.add_if(below, name);
                     self.add_if(!resting && in_auction, "leave: another's ticket in auction");
                     self.add_if(!resting && in_paying, "leave: another's ticket in paying");
                 }
@@ -1021,7 +814,6 @@ impl Counts {
                     let rest = self.rests >> ticket & 1 == 1;
                     self.add_if(rest, "leave: a rest of an earlier round");
                     self.add_if(answer.first > 2_000_000_000, "leave: above 2000000000");
-                    self.add_if(answer.first == u32::MAX, "leave: 4294967295");
                     self.add_if(held.market == 1, "leave: market 1");
                     self.add_if(held.market == 2, "leave: market 2");
                     self.add_if(held.market == 3, "leave: market 3");
@@ -1124,7 +916,10 @@ fn run(mut input: impl BufRead, mut output: impl Write) -> io::Result<Vec<String
         writeln!(output, "missing pairs: {}", missing.join(" "))?;
     }
     writeln!(output)?;
-    counts.borders.print(&mut output)?;
+    for name in BORDERS {
+        let count = counts.borders.get(name).copied().unwrap_or(0);
+        writeln!(output, "{count:>8}  {name}")?;
+    }
     output.flush()?;
 
     let mut faults = Vec::new();

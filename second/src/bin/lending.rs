@@ -1,19 +1,12 @@
 //! Takes lines that try lists of orders and lent buffers, from standard input,
-//! and prints what they answer: `lending`. Orders are gathered, at most 96 of
+//! and prints what they answer: `lending`. Orders are gathered, at most 65 of
 //! them, and nothing is printed for them. The first of these that applies
 //! tells what becomes of line k:
 //!
-//! - `0,m` places the gathered orders as a list with m places for answers, 96
+//! - `0,m` places the gathered orders as a list with m places for answers, 65
 //!   at most. Place i holds `0,i,4294967295` before. It prints the list's own
 //!   answer as `k,code,first,second`, and every place as `i,code,first,second`.
-//! - `0,10,n` asks which ticket of market n is to be claimed next. It prints
-//!   `k,0,count,lowest` of the tickets that the market's round marks, 0 and 0
-//!   where it marks none, or `k,3,0,0` where there is no such market.
-//! - `0,11,n` tries a fresh exchange, which is dropped after it. Member 0
-//!   deposits n of token 0 there and withdraws 1: `k,code,first,second` of each.
-//!   Then this line is taken there as line 1, for a lent buffer of 35 bytes. It
-//!   is no call: `1,20,0,0`.
-//! - An order is gathered, while fewer than 96 are.
+//! - An order is gathered, while fewer than 65 are.
 //! - A call is made without a line where k is even: `k,code,first,second`.
 //! - All else is taken as a line, for a lent buffer of 35 bytes, but of k / 8
 //!   modulo 32 where k modulo 8 is 1. It prints the answer line or, where that
@@ -25,47 +18,19 @@
 //!
 //! An input of more than 1,048,576 bytes is an error, and nothing is printed.
 
-use second::borders::Borders;
-use second::engine::{LIST_MOST, MARKETS, NO_LIST, TICKETS};
-use second::input::{lines, read_all, report, Fault};
-use second::lending::{room_of, Lending, Taken, GATHERED_MOST, USUAL_ROOM};
-use second::lines::{read_numbers, CODES, KINDS, NO_CALL, NO_ROOM};
+use second::engine::{LIST_MOST, NO_LIST, TICKETS};
+use second::lending::{room_of, Lending, Taken, GATHERED_MOST, INPUT_MOST};
+use second::lines::{read_after_zero, CODES, KINDS, NO_CALL, NO_ROOM};
 use second::{answer_line, books, Answer, Call, Exchange, Order, Phase, Place};
-use std::io::{self, BufWriter, Read, Write};
+use std::io::{self, BufWriter, ErrorKind, Read, Write};
 use std::process::ExitCode;
 
+/// What was being done when an error came up, and the error.
+type Fault = (&'static str, io::Error);
+
 /// Orders and places of the lists that are counted by their lengths.
-const LENGTHS: [(usize, usize); 18] = [
-    (0, 0),
-    (1, 1),
-    (63, 63),
-    (64, 64),
-    (65, 65),
-    (66, 66),
-    (70, 70),
-    (80, 80),
-    (95, 95),
-    (96, 96),
-    (64, 65),
-    (64, 63),
-    (65, 64),
-    (66, 65),
-    (96, 64),
-    (64, 96),
-    (0, 1),
-    (1, 0),
-];
-
-/// The phases of a market, by name.
-const PHASES: [(Phase, &str); 4] = [
-    (Phase::Closed, "closed"),
-    (Phase::Collect, "collect"),
-    (Phase::Auction, "auction"),
-    (Phase::Paying, "paying"),
-];
-
-/// How many tickets a round marks, by name.
-const MARKED: [&str; 4] = ["none marked", "1 marked", "several marked", "64 marked"];
+const LENGTHS: [(usize, usize); 10] =
+    [(0, 0), (1, 1), (63, 63), (64, 64), (65, 65), (64, 65), (64, 63), (65, 64), (0, 1), (1, 0)];
 
 /// The other borders that are counted, but for those of each code and kind.
 const BORDERS: &[&str] = &[
@@ -74,10 +39,9 @@ const BORDERS: &[&str] = &[
     "list: other lengths that differ refused",
     "list: more orders than places refused",
     "list: more places than orders refused",
-    "list: 66 to 96 orders, as many places refused",
-    "list: m above 96 refused",
+    "list: m above 65 refused",
     "list: m 4294967295 refused",
-    "list: m above 96, 96 orders refused",
+    "list: m above 65, 65 orders refused",
     "list: m equal to the orders modulo 256 refused",
     "list: refused, an order would be accepted",
     "list: refused, all orders would be accepted",
@@ -87,8 +51,6 @@ const BORDERS: &[&str] = &[
     "list: at an even line",
     "list: at an odd line",
     "list: a call made between its orders",
-    "list: a question between its orders",
-    "list: a fresh exchange between its orders",
     "list: all accepted",
     "list: all refused",
     "list: a refused order before an accepted one",
@@ -126,30 +88,6 @@ const BORDERS: &[&str] = &[
     "list: limit 2000000001 refused",
     "list: amount 0 refused",
     "list: amount above 2000000000 taken",
-    "next: market 0 refused",
-    "next: market 4 refused",
-    "next: market 1000 refused",
-    "next: market 4294967295 refused",
-    "next: the lowest is ticket 0",
-    "next: the lowest is ticket 63",
-    "next: the lowest is above ticket 31",
-    "next: another market marks more",
-    "next: beside gathered orders",
-    "next: at an even line",
-    "next: at an odd line",
-    "next: where the answer line would have no room",
-    "next: the lowest, then its claim",
-    "fresh: n 0",
-    "fresh: n 1",
-    "fresh: n 2",
-    "fresh: n 4294967295",
-    "fresh: another n",
-    "fresh: beside gathered orders",
-    "fresh: at an even line",
-    "fresh: at an odd line",
-    "fresh: where an answer line would have no room",
-    "fresh: member 0 has token 0 in the kept exchange",
-    "fresh: member 0 has no token 0 in the kept exchange",
     "line: 20 at an odd line",
     "line: 20 at an even line",
     "line: 20 beside gathered orders",
@@ -160,16 +98,6 @@ const BORDERS: &[&str] = &[
     "line: 0 and no number",
     "line: 0 and a number too large",
     "line: a list and a bad byte",
-    "line: 0, 10 and no number",
-    "line: 0, 10 and a leading zero",
-    "line: 0, 10 and a number too large",
-    "line: 0, 10 and two numbers",
-    "line: 0, 9 and a number",
-    "line: 0, 11 and no number",
-    "line: 0, 11 and a leading zero",
-    "line: 0, 11 and a number too large",
-    "line: 0, 11 and two numbers",
-    "line: 0, 12 and a number",
     "room: 21, a call to be accepted",
     "room: 21, a call to be refused",
     "room: 21, no call",
@@ -203,67 +131,40 @@ fn single_name(way: usize, kind: usize, accepted: bool) -> String {
     format!("{}: kind {kind} {}", WAYS[way], if accepted { "accepted" } else { "refused" })
 }
 
-/// The name of a question for a market in a phase.
-fn phase_name(market: usize, phase: &str) -> String {
-    format!("next: market {market}, {phase}")
-}
-
-/// The name of a question where so many tickets are marked.
-fn marked_name(phase: &str, marked: &str) -> String {
-    format!("next: {phase}, {marked}")
-}
-
-/// Every border, but for those that no market can meet: a closed one marks no
-/// ticket, and one that pays marks some.
-fn border_names() -> Vec<String> {
-    let mut names: Vec<String> =
-        LENGTHS.iter().map(|&(orders, places)| length_name(orders, places)).collect();
-    names.extend(CODES[3].iter().map(|&code| code_name(code)));
-    names.extend(BORDERS.iter().map(|name| name.to_string()));
-    for (phase, name) in PHASES {
-        names.extend((1..=MARKETS).map(|market| phase_name(market, name)));
-        let marked = match phase {
-            Phase::Closed => &MARKED[..1],
-            Phase::Paying => &MARKED[1..],
-            _ => &MARKED[..],
-        };
-        names.extend(marked.iter().map(|marked| marked_name(name, marked)));
-    }
-    for way in 0..WAYS.len() {
-        for kind in 1..=KINDS {
-            names.extend([true, false].map(|accepted| single_name(way, kind, accepted)));
-        }
-    }
-    names
-}
-
+/// Every border, each with its count, so that those not met show as 0.
 struct Counts {
-    borders: Borders,
+    borders: Vec<(String, u64)>,
     /// The code of the last list.
     last_list: Option<u8>,
-    /// A call was made, a question asked, or a fresh exchange tried, since an
-    /// order was gathered.
+    /// A call was made since an order was gathered.
     moved: bool,
-    asked: bool,
-    fresh: bool,
-    /// The ticket that the line before named.
-    named: Option<u32>,
 }
 
 impl Counts {
     fn new() -> Counts {
-        let borders = Borders::new(border_names());
-        Counts { borders, last_list: None, moved: false, asked: false, fresh: false, named: None }
+        let mut names: Vec<String> =
+            LENGTHS.iter().map(|&(orders, places)| length_name(orders, places)).collect();
+        names.extend(CODES[3].iter().map(|&code| code_name(code)));
+        names.extend(BORDERS.iter().map(|name| name.to_string()));
+        for way in 0..WAYS.len() {
+            for kind in 1..=KINDS {
+                names.extend([true, false].map(|accepted| single_name(way, kind, accepted)));
+            }
+        }
+        let borders = names.into_iter().map(|name| (name, 0)).collect();
+        Counts { borders, last_list: None, moved: false }
     }
 
     fn add_if(&mut self, holds: bool, name: &str) {
-        self.borders.add_if(holds, name);
+        if holds {
+            let border = self.borders.iter_mut().find(|(border, _)| border == name);
+            border.unwrap_or_else(|| panic!("no border {name}")).1 += 1;
+        }
     }
 
     /// Looks at a line, what became of it and the exchange before it. So many
     /// orders were gathered.
     fn line(&mut self, number: u32, line: &[u8], was: &Exchange, gathered: usize, taken: &Taken) {
-        let named = self.named.take();
         match taken {
             Taken::List { asked, orders, after, answer, .. } => {
                 self.lengths(*asked, orders.len(), after.len());
@@ -278,16 +179,10 @@ impl Counts {
                     self.refused(was, orders);
                 }
                 self.last_list = Some(answer.code);
-                (self.moved, self.asked, self.fresh) = (false, false, false);
+                self.moved = false;
             }
             Taken::Gathered => {}
-            Taken::Next { market, answer } => self.next(number, was, gathered, *market, *answer),
-            Taken::Fresh { amount, .. } => self.fresh(number, was, gathered, *amount),
-            Taken::Plain(call, answer) => {
-                let claims = named.is_some_and(|ticket| *call == Call::Claim { ticket });
-                self.add_if(claims && answer.code == 0, "next: the lowest, then its claim");
-                self.single(0, *call, answer.code, gathered);
-            }
+            Taken::Plain(call, answer) => self.single(0, *call, answer.code, gathered),
             Taken::Line { call, size, code, line: written } => {
                 self.room(number, was, *call, *size, written.len());
                 match call {
@@ -308,12 +203,10 @@ impl Counts {
         self.add_if(other, "list: other lengths that differ refused");
         self.add_if(orders > places, "list: more orders than places refused");
         self.add_if(orders < places, "list: more places than orders refused");
-        let many = orders == places && orders > LIST_MOST + 1;
-        self.add_if(many, "list: 66 to 96 orders, as many places refused");
         let far = asked as usize > GATHERED_MOST;
-        self.add_if(far, "list: m above 96 refused");
+        self.add_if(far, "list: m above 65 refused");
         self.add_if(asked == u32::MAX, "list: m 4294967295 refused");
-        self.add_if(far && orders == GATHERED_MOST, "list: m above 96, 96 orders refused");
+        self.add_if(far && orders == GATHERED_MOST, "list: m above 65, 65 orders refused");
         let wraps = far && asked as usize % 256 == orders;
         self.add_if(wraps, "list: m equal to the orders modulo 256 refused");
     }
@@ -323,8 +216,6 @@ impl Counts {
         self.add_if(self.last_list == Some(NO_LIST), "list: accepted after a refused one");
         self.add_if(self.last_list == Some(0), "list: accepted after an accepted one");
         self.add_if(self.moved, "list: a call made between its orders");
-        self.add_if(self.asked, "list: a question between its orders");
-        self.add_if(self.fresh, "list: a fresh exchange between its orders");
         let in_phase = |phase| was.markets().iter().any(|round| round.phase == phase);
         self.add_if(in_phase(Phase::Collect), "list: while a market collects");
         self.add_if(in_phase(Phase::Auction), "list: while a market is in auction");
@@ -419,60 +310,6 @@ impl Counts {
         self.add_if(all, "list: refused, all orders would be accepted");
     }
 
-    /// A question for a market's next ticket.
-    fn next(&mut self, number: u32, was: &Exchange, gathered: usize, market: u32, answer: Answer) {
-        self.asked |= gathered > 0;
-        self.add_if(gathered > 0, "next: beside gathered orders");
-        self.add_if(number % 2 == 0, "next: at an even line");
-        self.add_if(number % 2 == 1, "next: at an odd line");
-        let Answer { code, first, second } = answer;
-        let needed = format!("{number},{code},{first},{second}\n").len();
-        let little = room_of(number) < needed;
-        self.add_if(little, "next: where the answer line would have no room");
-        for bad in [0, 4, 1_000, u32::MAX] {
-            self.add_if(market == bad, &format!("next: market {bad} refused"));
-        }
-        if code != 0 {
-            return;
-        }
-        let round = was.markets()[market as usize - 1];
-        let phase = PHASES.iter().find(|(phase, _)| *phase == round.phase).map_or("", |p| p.1);
-        self.add_if(true, &phase_name(market as usize, phase));
-        let count = round.marks.count_ones();
-        let marked = match count {
-            0 | 1 => MARKED[count as usize],
-            64 => MARKED[3],
-            _ => MARKED[2],
-        };
-        self.add_if(true, &marked_name(phase, marked));
-        let more = was.markets().iter().any(|other| other.marks.count_ones() > count);
-        self.add_if(count > 0 && more, "next: another market marks more");
-        if count > 0 {
-            self.add_if(second == 0, "next: the lowest is ticket 0");
-            self.add_if(second == 63, "next: the lowest is ticket 63");
-            self.add_if(second > 31, "next: the lowest is above ticket 31");
-            self.named = Some(second);
-        }
-    }
-
-    /// A fresh exchange, tried with an amount.
-    fn fresh(&mut self, number: u32, was: &Exchange, gathered: usize, amount: u32) {
-        self.fresh |= gathered > 0;
-        self.add_if(gathered > 0, "fresh: beside gathered orders");
-        self.add_if(number % 2 == 0, "fresh: at an even line");
-        self.add_if(number % 2 == 1, "fresh: at an odd line");
-        let little = room_of(number) < format!("{number},0,{amount},0\n").len();
-        self.add_if(little, "fresh: where an answer line would have no room");
-        let name = match amount {
-            0..=2 | u32::MAX => format!("fresh: n {amount}"),
-            _ => "fresh: another n".to_string(),
-        };
-        self.add_if(true, &name);
-        let has = was.balances()[0][0] > 0;
-        self.add_if(has, "fresh: member 0 has token 0 in the kept exchange");
-        self.add_if(!has, "fresh: member 0 has no token 0 in the kept exchange");
-    }
-
     /// A call made singly.
     fn single(&mut self, way: usize, call: Call, code: u8, gathered: usize) {
         self.add_if(true, &single_name(way, call.kind(), code == 0));
@@ -490,21 +327,8 @@ impl Counts {
         };
         self.add_if(line == b"0", "line: 0 alone");
         self.add_if(line == b"0,", "line: 0 and no number");
-        if let [b"0", second, rest @ ..] = &fields[..] {
-            let plain = numbers(rest);
-            self.add_if(plain && rest.len() == 1, "line: 0 and two numbers");
-            self.add_if(plain && rest.len() == 1 && *second == b"9", "line: 0, 9 and a number");
-            self.add_if(plain && rest.len() == 1 && *second == b"12", "line: 0, 12 and a number");
-            if let Some(form) = ["10", "11"].iter().find(|form| *second == form.as_bytes()) {
-                let mut add_if =
-                    |holds, what| self.add_if(holds, &format!("line: 0, {form} and {what}"));
-                add_if(rest == [b""], "no number");
-                add_if(plain && rest.len() == 2, "two numbers");
-                let leading = rest.len() == 1 && rest[0].len() > 1 && rest[0][0] == b'0';
-                add_if(plain && leading, "a leading zero");
-                let large = rest.len() == 1 && rest[0].len() >= 10 && !leading;
-                add_if(plain && large, "a number too large");
-            }
+        if fields.len() == 3 && fields[0] == b"0" && numbers(&fields) {
+            self.add_if(true, "line: 0 and two numbers");
         }
         if fields.len() == 2 && numbers(&fields) {
             self.add_if(fields[0] == b"00", "line: 00 and a number");
@@ -516,7 +340,7 @@ impl Counts {
         }
         if let [before @ .., last] = line {
             let bad = !last.is_ascii_digit() && *last != b',';
-            let list = read_numbers(before).is_some_and(|numbers| matches!(numbers[..], [0, _]));
+            let list = read_after_zero(before).is_some();
             self.add_if(bad && list, "line: a list and a bad byte");
         }
     }
@@ -534,7 +358,7 @@ impl Counts {
         self.add_if(size == 0, "room: no bytes");
         self.add_if(size + 1 == len, "room: a byte too little");
         self.add_if(size == len, "room: just enough");
-        self.add_if(size > len && room_of(number) != USUAL_ROOM, "room: some to spare");
+        self.add_if(size > len && room_of(number) != 35, "room: some to spare");
     }
 }
 
@@ -548,10 +372,6 @@ fn check(number: u32, was: &Exchange, is: &Exchange, taken: &Taken) -> Result<()
     match taken {
         Taken::List { orders, before, after, answer, .. } => {
             books::check_list(was, is, orders, before, after, *answer)
-        }
-        Taken::Next { market, answer } => check_next(was, is, *market, *answer),
-        Taken::Fresh { amount, deposit, withdrawal, line } => {
-            check_fresh(was, is, *amount, [*deposit, *withdrawal], line)
         }
         Taken::Plain(call, answer) => books::check_call(was, is, *call, *answer),
         Taken::Line { call: Some(call), code, line, .. } if *code != NO_ROOM => {
@@ -567,52 +387,22 @@ fn check(number: u32, was: &Exchange, is: &Exchange, taken: &Taken) -> Result<()
     }
 }
 
-/// A question leaves the exchange. It is answered 3 where there is no such
-/// market, and else with the number of tickets in its round and the lowest.
-fn check_next(
-    was: &Exchange,
-    is: &Exchange,
-    market: u32,
-    answer: Answer,
-) -> Result<(), &'static str> {
-    if is != was {
-        return Err("a question moved something");
+/// All of the input, if it isn't too long.
+fn read_all(input: impl Read) -> Result<Vec<u8>, Fault> {
+    let mut bytes = Vec::new();
+    let most = u64::from(INPUT_MOST);
+    input.take(most + 1).read_to_end(&mut bytes).map_err(|error| ("read", error))?;
+    if bytes.len() as u64 > most {
+        let text = format!("more than {most} bytes");
+        return Err(("read", io::Error::new(ErrorKind::InvalidData, text)));
     }
-    let held = |ticket: &usize| {
-        let held = was.tickets()[*ticket];
-        held.place == Place::Round && held.market == market
-    };
-    let first = (0..TICKETS).filter(held).count() as u32;
-    let second = (0..TICKETS).find(held).unwrap_or(0) as u32;
-    let right = match market {
-        1..=3 => Answer { code: 0, first, second },
-        _ => Answer::refused(3),
-    };
-    if answer != right {
-        return Err("a question is not answered with the tickets of the round");
-    }
-    Ok(())
+    Ok(bytes)
 }
 
-/// A fresh exchange leaves the kept one. It begins with no balance and no line.
-fn check_fresh(
-    was: &Exchange,
-    is: &Exchange,
-    amount: u32,
-    answers: [Answer; 2],
-    line: &[u8],
-) -> Result<(), &'static str> {
-    if is != was {
-        return Err("a fresh exchange moved something of the kept one");
-    }
-    let right = match amount {
-        0 => [Answer::refused(6), Answer::refused(19)],
-        _ => [amount, amount - 1].map(|balance| Answer { code: 0, first: balance, second: 0 }),
-    };
-    if answers != right || line != b"1,20,0,0\n" {
-        return Err("a fresh exchange has not the answers of one");
-    }
-    Ok(())
+/// The lines of an input, without their bytes 10.
+fn lines(input: &[u8]) -> impl Iterator<Item = &[u8]> {
+    let lines = input.split_inclusive(|&byte| byte == b'\n');
+    lines.map(|line| line.strip_suffix(b"\n").unwrap_or(line))
 }
 
 fn run(input: impl Read, mut output: impl Write) -> Result<(), Fault> {
@@ -646,7 +436,9 @@ fn run_coverage(input: impl Read, mut output: impl Write) -> Result<Option<Strin
         writeln!(output, "lines {number}, bytes {}, the last one {end} byte 10", input.len())?;
         writeln!(output, "orders never placed {dropped}")?;
         writeln!(output)?;
-        counts.borders.print(&mut output)?;
+        for (name, count) in &counts.borders {
+            writeln!(output, "{count:>8}  {name}")?;
+        }
         output.flush()
     };
     print().map_err(|error| ("write", error))?;
@@ -664,13 +456,22 @@ fn main() -> ExitCode {
             return ExitCode::FAILURE;
         }
     };
-    report("lending", told)
+    match told {
+        Ok(None) => ExitCode::SUCCESS,
+        Ok(Some(wrong)) => {
+            let _ = writeln!(io::stderr(), "lending: {wrong}");
+            ExitCode::FAILURE
+        }
+        Err((doing, error)) => {
+            let _ = writeln!(io::stderr(), "cannot {doing}: {error}");
+            ExitCode::FAILURE
+        }
+    }
 }
 
 #[cfg(test)]
 mod tests {
     use super::*;
-    use second::input::INPUT_MOST;
 
     fn printed(input: &str) -> String {
         let mut output = Vec::new();
@@ -708,15 +509,12 @@ mod tests {
         let places = |count: usize| -> String {
             (0..count).map(|place| format!("{place},0,{place},4294967295\n")).collect()
         };
-        for (asked, count) in [(1, 1), (64, 64), (65, 65), (96, 96), (97, 96), (4294967295u32, 96)]
-        {
+        for (asked, count) in [(1, 1), (64, 64), (65, 65), (66, 65), (4294967295u32, 65)] {
             assert_eq!(printed(&format!("0,{asked}\n")), format!("1,22,0,0\n{}", places(count)));
         }
         let full = |count: usize| "3,0,0,1,0,1,1\n".repeat(count);
-        let lengths =
-            [(1, 0), (1, 2), (64, 63), (64, 65), (65, 64), (65, 65), (66, 66), (96, 96), (96, 900)];
-        for (orders, asked) in lengths {
-            let refused = format!("{},22,0,0\n{}", orders + 1, places(asked.min(96)));
+        for (orders, asked) in [(1, 0), (1, 2), (64, 63), (64, 65), (65, 64), (65, 65), (65, 900)] {
+            let refused = format!("{},22,0,0\n{}", orders + 1, places(asked.min(65)));
             assert_eq!(printed(&format!("{}0,{asked}\n", full(orders))), refused);
             // The orders are gone.
             let input = format!("{}0,{asked}\n0,0\n0,1\n", full(orders));
@@ -730,47 +528,13 @@ mod tests {
 
     #[test]
     fn more_orders_than_can_be_gathered() {
-        // From line 99 on they are made singly: with a line, and without one.
-        let orders: String = (0..96).map(|ticket| format!("3,{ticket},0,1,0,1,1\n")).collect();
+        // From line 68 on they are made singly: without a line, and with one.
+        let orders: String = (0..65).map(|ticket| format!("3,{ticket},0,1,0,1,1\n")).collect();
         let input = format!("\n1,0,0,100\n{orders}3,0,0,1,0,1,7\n3,1,0,1,0,1,8\n3,1,0,1,0,1,8\n");
-        let singly = "1,21,0,0\n2,0,100,0\n99,0,7,0\n100,0,8,0\n101,7,0,0\n";
+        let singly = "1,21,0,0\n2,0,100,0\n68,0,7,0\n69,0,8,0\n70,7,0,0\n";
         assert_eq!(printed(&input), singly);
-        ends(&format!("{input}0,96\n2,0,0,86\n2,0,0,85"), "103,19,0,0\n104,0,0,0\n");
-        ends(&format!("{input}0,96\n2,0,0,85"), "95,0,95,4294967295\n103,0,0,0\n");
-    }
-
-    #[test]
-    fn questions_for_the_next_ticket() {
-        for (line, code) in [("0,10,0", 3), ("0,10,4", 3), ("0,10,4294967295", 3), ("0,10,2", 0)] {
-            assert_eq!(printed(line), format!("1,{code},0,0\n"));
-        }
-        // Orders stay gathered, and a list of ten places is no question.
-        let input = "\n1,0,0,9\n3,7,0,1,0,9,4\n3,5,0,1,0,9,5\n0,10,1\n0,2\n5,1,0,1,0,1\n6,7\n\
-            0,10,1\n6,5\n0,10,1\n0,10,2\n0,10";
-        let answers = "1,21,0,0\n2,0,9,0\n5,0,0,0\n6,0,0,0\n0,0,4,0\n1,0,5,0\n7,0,1,1\n8,0,4,0\n\
-            9,0,1,7\n10,0,9,0\n11,0,2,5\n12,0,0,0\n13,22,0,0\n";
-        let places: String =
-            (0..10).map(|place| format!("{place},0,{place},4294967295\n")).collect();
-        assert_eq!(printed(input), format!("{answers}{places}"));
-    }
-
-    #[test]
-    fn fresh_exchanges() {
-        assert_eq!(printed("0,11,0"), "1,6,0,0\n1,19,0,0\n1,20,0,0\n");
-        for amount in [1, 2, 7, 4294967295u32] {
-            let answers = format!("1,0,{amount},0\n1,0,{},0\n1,20,0,0\n", amount - 1);
-            assert_eq!(printed(&format!("0,11,{amount}")), answers);
-        }
-        // The kept exchange stays, and so do the gathered orders.
-        let input = "\n1,0,0,9\n3,7,0,1,0,9,4\n0,11,7\n0,11,0\n3,5,0,1,0,9,5\n0,2\n2,0,0,1\n\
-            0,11,4294967295\n0,11";
-        let answers =
-            "1,21,0,0\n2,0,9,0\n4,0,7,0\n4,0,6,0\n1,20,0,0\n5,6,0,0\n5,19,0,0\n1,20,0,0\n\
-            7,0,0,0\n0,0,4,0\n1,0,5,0\n8,19,0,0\n9,0,4294967295,0\n9,0,4294967294,0\n1,20,0,0\n\
-            10,22,0,0\n";
-        let places: String =
-            (0..11).map(|place| format!("{place},0,{place},4294967295\n")).collect();
-        assert_eq!(printed(input), format!("{answers}{places}"));
+        ends(&format!("{input}0,65\n2,0,0,86\n2,0,0,85"), "72,19,0,0\n73,0,0,0\n");
+        ends(&format!("{input}0,65\n2,0,0,85"), "64,0,64,4294967295\n72,0,0,0\n");
     }
 
     #[test]
@@ -779,19 +543,6 @@ mod tests {
             "0",
             "0,",
             "0,1,2",
-            "0,9,1",
-            "0,12,1",
-            "0,10,",
-            "0,10,01",
-            "0,10,1,1",
-            "0,10,4294967296",
-            "00,10,1",
-            "0,11,",
-            "0,11,01",
-            "0,11,1,1",
-            "0,11,4294967296",
-            "00,11,1",
-            "0,11,1\r",
             "00,1",
             "0,01",
             "0,00",
@@ -885,7 +636,7 @@ mod tests {
     #[test]
     fn borders_are_counted() {
         assert_eq!(counted(""), Vec::<String>::new());
-        let mut names = border_names();
+        let mut names = Counts::new().borders;
         let number = names.len();
         names.sort();
         names.dedup();
@@ -937,26 +688,6 @@ mod tests {
         assert!(check(3, &was, &is, &line(21, b"")).is_err());
         assert_eq!(check(3, &was, &was, &Taken::Gathered), Ok(()));
         assert!(check(3, &was, &is, &Taken::Gathered).is_err());
-        let next = |market, answer| Taken::Next { market, answer };
-        let none = Answer { code: 0, first: 0, second: 0 };
-        assert_eq!(check(3, &was, &was, &next(1, none)), Ok(()));
-        assert!(check(3, &was, &is, &next(1, none)).is_err());
-        assert!(check(3, &was, &was, &next(4, none)).is_err());
-        assert!(check(3, &was, &was, &next(1, Answer { first: 1, ..none })).is_err());
-        let fresh = |amount, deposit, withdrawal, line: &[u8]| Taken::Fresh {
-            amount,
-            deposit,
-            withdrawal,
-            line: line.to_vec(),
-        };
-        let four = Answer { first: 4, ..none };
-        let third = b"1,20,0,0\n";
-        assert_eq!(check(3, &was, &was, &fresh(5, answer, four, third)), Ok(()));
-        assert!(check(3, &was, &is, &fresh(5, answer, four, third)).is_err());
-        assert!(check(3, &was, &was, &fresh(5, answer, answer, third)).is_err());
-        assert!(check(3, &was, &was, &fresh(6, answer, four, third)).is_err());
-        assert!(check(3, &was, &was, &fresh(0, none, none, third)).is_err());
-        assert!(check(3, &was, &was, &fresh(5, answer, four, b"3,20,0,0\n")).is_err());
         let refused = Answer { code: 22, first: 0, second: 0 };
         let list = |answer| Taken::List {
             asked: 1,

@@ -4,15 +4,13 @@
 //! with others. About half of the orders are right; the others are to be
 //! refused, with each code that an order meets. Between the lists, and among
 //! their orders, come other calls that drive rounds, right ones and wrong ones,
-//! questions for a market's next ticket, now and then a fresh exchange, and
-//! lines that are no call. The exchange is worked along, so that each line can
-//! be aimed at its state.
+//! and lines that are no call. The exchange is worked along, so that each line
+//! can be aimed at its state.
 
 use second::chance::Chance;
 use second::drafts::{offered_token, wide_limit, Draft, Drafts, Season, SORTS};
 use second::engine::{LIST_MOST, MOST, TICKETS};
-use second::input::INPUT_MOST;
-use second::lending::{room_of, Lending, GATHERED_MOST};
+use second::lending::{room_of, Lending, GATHERED_MOST, INPUT_MOST};
 use second::lines::CODES;
 use second::{Exchange, Phase, Place};
 use std::io::{self, BufWriter, Write};
@@ -21,30 +19,22 @@ use std::process::ExitCode;
 /// Stands for a number of places that is far too large.
 const FAR: u64 = u64::MAX;
 
-/// Orders and places of lists at the borders, which take turns. From the 97th
+/// Orders and places of lists at the borders, which take turns. From the 66th
 /// on, orders in a row are made singly.
-const SHAPES: [(u64, u64); 21] = [
+const SHAPES: [(u64, u64); 13] = [
     (64, 64),
     (0, 0),
     (1, 1),
     (65, 65),
-    (96, 96),
     (1, 0),
     (63, 63),
-    (66, 66),
     (0, 1),
     (64, 65),
-    (96, 64),
-    (101, 96),
+    (70, 65),
     (64, 63),
     (1, FAR),
-    (64, 96),
-    (70, 70),
     (65, 64),
-    (66, 65),
-    (80, 80),
-    (97, FAR),
-    (95, 95),
+    (66, FAR),
 ];
 
 /// The codes that refuse an order; they take turns.
@@ -55,13 +45,10 @@ const SEASONS: [Season; 6] =
     [Season::Tiny, Season::Usual, Season::Odd, Season::Dear, Season::Usual, Season::Huge];
 
 /// How many sorts of faults a line that places a list can have.
-const FORMS: usize = 24;
+const FORMS: usize = 14;
 
 /// How many sorts of far too large numbers of places there are.
 const FARS: usize = 5;
-
-/// How many sorts of amounts for a fresh exchange there are.
-const AMOUNTS: usize = 6;
 
 /// What the orders of a list are.
 #[derive(Clone, Copy, PartialEq)]
@@ -82,15 +69,12 @@ struct Lists<W: Write> {
     /// The last line is an order, which is never placed; else a list.
     order_last: bool,
     /// The next shape, code of an order, fault of a list's line, number of
-    /// places that is far too large, amount for a fresh exchange, and season.
+    /// places that is far too large, and season.
     shape: usize,
     code: usize,
     form: usize,
     far: usize,
-    amount: usize,
     season: usize,
-    /// Full rounds so far; their markets take turns.
-    rounds: u64,
     failed: Option<io::Error>,
 }
 
@@ -103,7 +87,6 @@ impl<W: Write> Lists<W> {
         let code = chance.below(CODES_OF_ORDERS.len() as u64) as usize;
         let form = chance.below(FORMS as u64) as usize;
         let far = chance.below(FARS as u64) as usize;
-        let amount = chance.below(AMOUNTS as u64) as usize;
         let season = chance.below(SEASONS.len() as u64) as usize;
         Lists {
             drafts: Drafts::new(chance, Exchange::new(), sort),
@@ -116,16 +99,13 @@ impl<W: Write> Lists<W> {
             code,
             form,
             far,
-            amount,
             season,
-            rounds: seed % 3,
             failed: None,
         }
     }
 
     fn run(&mut self) -> io::Result<()> {
         self.full_list();
-        self.full_round();
         while self.left > 0 && self.failed.is_none() {
             if self.drafts.chance.once_in(4) {
                 self.new_season();
@@ -135,8 +115,6 @@ impl<W: Write> Lists<W> {
             }
             if self.drafts.chance.once_in(40) {
                 self.full_list();
-            } else if self.drafts.chance.once_in(80) {
-                self.full_round();
             } else {
                 self.list();
             }
@@ -204,10 +182,7 @@ impl<W: Write> Lists<W> {
     /// A line that is no order.
     fn aside(&mut self) {
         self.aim();
-        if self.drafts.chance.once_in(32) {
-            return self.fresh();
-        }
-        match self.drafts.chance.below(21) {
+        match self.drafts.chance.below(20) {
             0 => {
                 let market = self.drafts.find_market(Phase::Auction);
                 match market.and_then(|market| self.drafts.bid_draft(market)) {
@@ -222,11 +197,10 @@ impl<W: Write> Lists<W> {
                 let draft = self.drafts.mutated(kind);
                 self.say(draft);
             }
-            17 => {
+            17 | 18 => {
                 let line = self.drafts.faulty();
                 self.put(&line);
             }
-            18 | 19 => self.question(),
             _ => self.faulty_list(),
         }
     }
@@ -268,39 +242,8 @@ impl<W: Write> Lists<W> {
         self.say(draft);
     }
 
-    /// A question for a market's next ticket, now and then of a market that
-    /// there is not.
-    fn question(&mut self) {
-        let c = &mut self.drafts.chance;
-        let market = match c.below(8) {
-            0 => c.pick(&[0, 4]),
-            1 => c.pick(&[MOST, 1_000, 5, 256]),
-            2 | 3 => c.between(1, 3),
-            _ => {
-                let phase = c.pick(&[Phase::Collect, Phase::Auction, Phase::Paying]);
-                self.drafts.find_market(phase).unwrap_or(1)
-            }
-        };
-        self.put(format!("0,10,{market}").as_bytes());
-    }
-
-    /// A fresh exchange, with an amount of the next sort.
-    fn fresh(&mut self) {
-        let sort = self.amount;
-        self.amount = (sort + 1) % AMOUNTS;
-        let c = &mut self.drafts.chance;
-        let amount = match sort {
-            0 => 0,
-            1 => 1,
-            2 => 2,
-            3 => MOST,
-            _ => c.any_size(MOST),
-        };
-        self.put(format!("0,11,{amount}").as_bytes());
-    }
-
-    /// A line that would place the gathered orders, ask for a ticket or try a
-    /// fresh exchange, but for a fault, which take turns.
+    /// A line that would place the gathered orders but for a fault, which take
+    /// turns.
     fn faulty_list(&mut self) {
         let form = self.form;
         self.form = (form + 1) % FORMS;
@@ -319,19 +262,7 @@ impl<W: Write> Lists<W> {
             10 => format!(" 0,{m}"),
             11 => format!("0,-{m}"),
             12 => format!("0,{m} "),
-            13 => format!("0,{m}0000000000"),
-            // The same of a question.
-            14 => "0,10,".to_string(),
-            15 => "0,10,01".to_string(),
-            16 => "0,10,4294967297".to_string(),
-            17 => "0,10,1,1".to_string(),
-            18 => "0,9,1".to_string(),
-            19 => "0,12,1".to_string(),
-            // And of a fresh exchange.
-            20 => "0,11,".to_string(),
-            21 => "0,11,01".to_string(),
-            22 => "0,11,4294967297".to_string(),
-            _ => "0,11,1,1".to_string(),
+            _ => format!("0,{m}0000000000"),
         };
         self.put(line.as_bytes());
     }
@@ -415,70 +346,6 @@ impl<W: Write> Lists<W> {
                     self.say(Draft::new(1, &[member, token, amount]));
                 }
             }
-        }
-    }
-
-    /// A round in one market that marks all 64 tickets, and the claims that
-    /// questions name.
-    fn full_round(&mut self) {
-        self.put(b"0,0");
-        self.free_tickets(TICKETS);
-        let market = 1 + self.rounds % 3;
-        self.rounds += 1;
-        self.close(market);
-        self.aim();
-        for token in [0, market] {
-            let amount = self.drafts.room(token).min(10_000);
-            self.insist(Draft::new(1, &[5, token, amount]));
-        }
-        for ticket in 0..64 {
-            let side = ticket % 2;
-            self.say(Draft::new(3, &[ticket, 5, market, side, wide_limit(side), 1 + ticket]));
-        }
-        self.put(b"0,64");
-        let block = self.drafts.last();
-        self.insist(Draft::new(5, &[market, block, 1_000_000, 0, 1]));
-        let ask = format!("0,10,{market}").into_bytes();
-        self.put(&ask);
-        for ticket in (0..64).rev() {
-            self.insist(Draft::new(6, &[ticket]));
-            if [63, 62, 40, 0].contains(&ticket) {
-                self.put(&ask);
-            }
-        }
-        for _ in 0..2 {
-            self.aim();
-            if let Some(draft) = self.next_phase(market) {
-                self.insist(draft);
-                self.put(&ask);
-            }
-        }
-        for ticket in 0..64 {
-            if self.drafts.chance.once_in(6) || ticket == 63 {
-                self.put(&ask);
-            }
-            self.insist(Draft::new(10, &[ticket]));
-        }
-        self.put(&ask);
-    }
-
-    /// Calls until a market without tickets in a round is closed.
-    fn close(&mut self, market: u64) {
-        for _ in 0..2 {
-            self.aim();
-            if let Some(draft) = self.next_phase(market) {
-                self.insist(draft);
-            }
-        }
-    }
-
-    /// A call, and once more where it moved nothing: its answer line may have
-    /// had no room.
-    fn insist(&mut self, draft: Draft) {
-        let was = self.lending.exchange().clone();
-        self.say(draft);
-        if *self.lending.exchange() == was {
-            self.say(draft);
         }
     }
 
@@ -571,10 +438,10 @@ impl<W: Write> Lists<W> {
     fn draw_shape(&mut self) -> (u64, u64) {
         // Now and then the orders that are made singly come where an answer line
         // has no room.
-        let later = self.lending.number() + 111;
+        let later = self.lending.number() + 80;
         let c = &mut self.drafts.chance;
         if room_of(later - later % 8 + 1) < 10 && c.once_in(5) {
-            return (107, 96);
+            return (76, 65);
         }
         let (orders, places) = if c.once_in(2) {
             let shape = SHAPES[self.shape];
@@ -582,14 +449,14 @@ impl<W: Write> Lists<W> {
             shape
         } else {
             let orders = match c.below(12) {
-                0 => c.between(0, 100),
+                0 => c.between(0, 70),
                 1 | 2 => c.between(2, 40),
                 _ => c.between(1, 12),
             };
             let places = match c.below(16) {
                 0 => orders + 1,
                 1 => orders.saturating_sub(1),
-                2 => c.between(0, 96),
+                2 => c.between(0, 65),
                 3 => FAR,
                 _ => orders,
             };
@@ -602,9 +469,9 @@ impl<W: Write> Lists<W> {
         let far = match self.far {
             0 => MOST,
             1 => gathered + 256,
-            2 => 97,
+            2 => 66,
             3 => gathered + c.pick(&[65_536, 1 << 31]),
-            _ => 96 + c.any_size(MOST - 96),
+            _ => 65 + c.any_size(MOST - 65),
         };
         self.far = (self.far + 1) % FARS;
         (orders, far)
@@ -803,14 +670,14 @@ mod tests {
         let [mut right, mut wrong] = [0, 0];
         for seed in 1..=10 {
             let mut lending = Lending::new();
-            for line in printed(seed, 8_000).split(|&byte| byte == b'\n') {
+            for line in printed(seed, 2_000).split(|&byte| byte == b'\n') {
                 let codes = match lending.take(line) {
                     Taken::List { answer, after, .. } if answer.code == 0 => {
                         after.iter().map(|answer| answer.code).collect()
                     }
                     Taken::List { answer, .. } | Taken::Plain(_, answer) => vec![answer.code],
                     Taken::Line { code, .. } => vec![code],
-                    Taken::Gathered | Taken::Next { .. } | Taken::Fresh { .. } => Vec::new(),
+                    Taken::Gathered => Vec::new(),
                 };
                 right += codes.iter().filter(|&&code| code == 0).count();
                 wrong += codes.iter().filter(|&&code| code != 0).count();

@@ -4,11 +4,8 @@
 //! whose match is rounded at a border, and some whose auction has its price
 //! stepped at one; the others are calls to be refused, for every kind and code,
 //! and lines that are no call, of every sort. The exchange is worked along, so
-//! that each line can be aimed at its state. Where there are lines enough, it
-//! begins with rounds of all that there may be of two tokens, before rounding
-//! leaves any in the tray, and ends with auctions that go on to the last block
-//! number. `traffic SEED LINES FILE` prints traffic that is to follow the lines
-//! of a file.
+//! that each line can be aimed at its state. `traffic SEED LINES FILE` prints
+//! traffic that is to follow the lines of a file.
 
 use second::chance::Chance;
 use second::drafts::{offered_token, padded, wide_bound, wide_limit};
@@ -116,13 +113,9 @@ struct Traffic<W: Write> {
     left: u64,
     /// The last line has no byte 10.
     open_end: bool,
-    /// Begins with rounds of whole supplies.
-    whole: bool,
     /// Blocks of new rounds jump to `jump_to` when this many lines are left.
     jump_at: u64,
     jump_to: u64,
-    /// The last auctions begin when this many lines are left.
-    last_at: u64,
     /// The line of 100,000 bytes comes when this many lines are left.
     long_at: u64,
     /// Small rounds so far.
@@ -146,15 +139,12 @@ impl<W: Write> Traffic<W> {
             let refused = codes.iter().filter(|code| ![0, NO_CALL].contains(code));
             refusals.extend(refused.map(|&code| (kind, code)));
         }
-        // Where the run is long enough, it ends at the last block number: every
-        // fourth seed with some rounds that begin there, and every fourth with
-        // some rounds near it.
-        let long = lines >= 5_000;
-        let (jump_at, jump_to, last_at) = match seed % 4 {
-            _ if !long => (0, 0, 0),
-            0 => (200, MOST, 400),
-            2 => (600, MOST - 600, 220),
-            _ => (0, 0, 220),
+        // Where the run is long enough, every second seed ends near the last
+        // block number or at it.
+        let (jump_at, jump_to) = match seed % 4 {
+            0 if lines >= 5_000 => (200, MOST),
+            2 if lines >= 5_000 => (500, MOST - 200),
+            _ => (0, 0),
         };
         let seasons = chance.below(6) as usize;
         let long_at = lines.saturating_sub(chance.below(10_000));
@@ -167,10 +157,8 @@ impl<W: Write> Traffic<W> {
             refusals,
             left: lines,
             open_end: seed % 3 == 1,
-            whole: long,
             jump_at,
             jump_to,
-            last_at,
             long_at,
             small_rounds,
             step_rounds,
@@ -182,17 +170,11 @@ impl<W: Write> Traffic<W> {
     }
 
     fn run(&mut self) -> io::Result<()> {
-        if self.whole {
-            self.whole_rounds();
-        }
         while self.left > 0 && self.failed.is_none() {
             if self.season_left == 0 {
                 self.new_season();
             }
-            if self.left <= self.last_at {
-                self.last_at = 0;
-                self.last_auctions();
-            } else if self.left <= self.long_at {
+            if self.left <= self.long_at {
                 self.long_at = 0;
                 let line = self.long_line();
                 self.put(&line);
@@ -249,226 +231,23 @@ impl<W: Write> Traffic<W> {
         };
         // Clear the books now and then, so that new sizes count.
         if self.drafts.season == Huge || self.drafts.chance.once_in(2) {
-            self.clear_books();
+            for ticket in 0..64 {
+                let held = self.drafts.exchange.tickets()[ticket as usize];
+                if held.place == Place::Resting {
+                    self.say(Draft::new(4, &[ticket, u64::from(held.member)]));
+                }
+            }
+            for member in 0..16 {
+                for token in 0..4 {
+                    let balance = self.drafts.balance(member, token);
+                    if balance > 0 {
+                        self.say(Draft::new(2, &[member, token, balance]));
+                    }
+                }
+            }
         }
         if self.drafts.season == Huge {
             self.giant_round();
-        }
-    }
-
-    /// Cancels what rests and withdraws all balances.
-    fn clear_books(&mut self) {
-        self.cancel_resting(64);
-        for member in 0..16 {
-            for token in 0..4 {
-                let balance = self.drafts.balance(member, token);
-                if balance > 0 {
-                    self.say(Draft::new(2, &[member, token, balance]));
-                }
-            }
-        }
-    }
-
-    /// Cancels tickets that rest, so many at most.
-    fn cancel_resting(&mut self, most: usize) {
-        let resting =
-            |ticket: &u64| self.drafts.exchange.tickets()[*ticket as usize].place == Place::Resting;
-        let tickets: Vec<u64> = (0..64).filter(resting).take(most).collect();
-        for ticket in tickets {
-            self.say(Draft::new(4, &[ticket, self.drafts.owner(ticket)]));
-        }
-    }
-
-    /// Rounds of all that there may be of the quote and of a base, or nearly, at
-    /// a price of one for one: matches, then bids for either side.
-    fn whole_rounds(&mut self) {
-        let first = self.drafts.chance.below(15);
-        for turn in first..first + 5 {
-            let market = 1 + turn % 3;
-            let least = MOST - turn % 5;
-            let totals = match self.drafts.chance.below(3) {
-                0 => [MOST, least],
-                1 => [least, MOST],
-                _ => [least; 2],
-            };
-            self.whole_match(market, totals, [1_000_000, 0]);
-        }
-        // The quote comes to the most by rounding up.
-        self.whole_match(1 + first % 3, [MOST, MOST - 4_295], [1_000_001, 1]);
-        for side in [0, 1] {
-            for less in [0, self.drafts.chance.between(1, 4)] {
-                let market = 1 + (first + side + less) % 3;
-                self.whole_bids(market, side, MOST - less);
-            }
-            self.dear_bids(1 + first % 3, side);
-        }
-        self.clear_books();
-    }
-
-    /// A round with these totals, its match and its claims. The terms are its
-    /// reference and slack. Where all is traded one for one, a unit may be
-    /// another ticket's: nothing is left to the tray.
-    fn whole_match(&mut self, market: u64, totals: [u64; 2], [reference, slack]: [u64; 2]) {
-        self.clear_books();
-        let block = self.drafts.last() + self.drafts.some_blocks();
-        let length = self.drafts.length();
-        self.say(Draft::new(5, &[market, block, reference, slack, length]));
-        for side in [0, 1] {
-            let split = totals[0] == totals[1] && self.drafts.chance.once_in(3);
-            let unit = u64::from(split);
-            for amount in [totals[side as usize] - unit, unit] {
-                if amount > 0 {
-                    self.enter_whole(market, side, amount);
-                }
-            }
-        }
-        self.say(Draft::new(7, &[market, self.drafts.match_block(market)]));
-        self.end_auction(market, 0);
-    }
-
-    /// An order that is cancelled and placed again, that enters, leaves and
-    /// enters again.
-    fn enter_whole(&mut self, market: u64, side: u64, amount: u64) -> Option<()> {
-        let ticket = self.place_order(market, side, wide_limit(side), amount)?;
-        let owner = self.drafts.owner(ticket);
-        if self.drafts.chance.once_in(3) {
-            self.say(Draft::new(4, &[ticket, owner]));
-            let order = [ticket, owner, market, side, wide_limit(side), amount];
-            self.say(Draft::new(3, &order));
-        }
-        self.say(Draft::new(6, &[ticket]));
-        if self.drafts.chance.once_in(3) {
-            self.leave_and_enter(ticket);
-        }
-        Some(())
-    }
-
-    /// A round of the whole supply of one side, for which a maker bids so much
-    /// at once, with a bound just missed, then just met. Before it come bids for
-    /// half of that, with bounds missed by many.
-    fn whole_bids(&mut self, market: u64, side: u64, base: u64) -> Option<()> {
-        self.clear_books();
-        let block = self.drafts.last() + self.drafts.some_blocks();
-        let length = self.drafts.length();
-        self.say(Draft::new(5, &[market, block, 1_000_000, 0, length]));
-        self.enter_whole(market, side, MOST)?;
-        let start = self.drafts.match_block(market);
-        self.say(Draft::new(7, &[market, start]));
-        let mut draft = self.paid_bid(market, side, start, base, 1)?;
-        draft.f[4] = base / 2;
-        for bound in far_bounds(side, base / 2) {
-            draft.f[5] = bound;
-            self.say(draft);
-        }
-        draft.f[4] = base;
-        let missed = if side == 1 { base - 1 } else { base + 1 };
-        for bound in [missed, base] {
-            if bound <= MOST {
-                draft.f[5] = bound;
-                self.say(draft);
-            }
-        }
-        if base < MOST {
-            // As much again is more than is left.
-            self.say(draft);
-        }
-        self.end_auction(market, 0);
-        Some(())
-    }
-
-    /// A round of the whole supply of one side at the highest price: bids whose
-    /// quote is above all numbers, and just below.
-    fn dear_bids(&mut self, market: u64, side: u64) -> Option<()> {
-        self.clear_books();
-        let block = self.drafts.last() + self.drafts.some_blocks();
-        self.say(Draft::new(5, &[market, block, 1_000_000_000, 0, 1]));
-        self.enter_whole(market, side, MOST)?;
-        let start = self.drafts.match_block(market);
-        self.say(Draft::new(7, &[market, start]));
-        let most = MOST / 1_000;
-        let mut draft = self.paid_bid(market, side, start, most, 1)?;
-        for base in [MOST, most + 1, most] {
-            draft.f[4] = base;
-            self.say(draft);
-        }
-        self.end_auction(market, 0);
-        Some(())
-    }
-
-    /// Auctions of which one ends at the last block number and the other would
-    /// go on past it. They are settled there once nothing is left, and not
-    /// before. Rounds before them are brought to an end in two markets. Nothing
-    /// if blocks, lines or tickets are wanting.
-    fn last_auctions(&mut self) -> Option<()> {
-        let mut markets = [1, 2, 3];
-        markets.sort_by_key(|&market| self.drafts.market(market).phase != Phase::Closed);
-        for market in &markets[..2] {
-            self.close(*market);
-        }
-        self.cancel_resting(8);
-        let length = self.drafts.chance.between(2, 60);
-        let opened = MOST - length - 4;
-        if self.drafts.last() > opened {
-            return None;
-        }
-        let side = self.drafts.chance.below(2);
-        let rounds = [
-            (markets[0], side, length),
-            (markets[1], 1 - side, length + self.drafts.chance.between(1, 4)),
-        ];
-        for (market, side, length) in rounds {
-            self.last_round(market, side, opened, length)?;
-        }
-        for (market, side, _) in rounds {
-            self.say(Draft::new(7, &[market, opened + 4]));
-            if self.drafts.market(market).phase != Phase::Auction {
-                return None;
-            }
-            self.say(Draft::new(9, &[market, opened + 4]));
-            self.bounded_bids(market, side, opened + 4, 1);
-        }
-        let between = self.drafts.chance.between(opened + 5, MOST - 1);
-        for (market, side, _) in rounds {
-            self.bounded_bids(market, side, between, 2);
-            self.say(Draft::new(9, &[market, between]));
-        }
-        for (market, side, _) in rounds {
-            self.bounded_bids(market, side, MOST, 2);
-            self.say(Draft::new(9, &[market, MOST]));
-            self.last_bids(market, side, MOST);
-            self.say(Draft::new(9, &[market, MOST]));
-            for ticket in self.drafts.marked(market) {
-                self.say(Draft::new(10, &[ticket]));
-            }
-        }
-        Some(())
-    }
-
-    /// Opens a round of offers on one side. Its prices stay below one for one,
-    /// so that any quote that is left can be taken.
-    fn last_round(&mut self, market: u64, side: u64, block: u64, length: u64) -> Option<()> {
-        let reference = self.drafts.chance.between(100_000, 900_000);
-        let slack = self.drafts.chance.between(1, 100) * 1_000;
-        self.say(Draft::new(5, &[market, block, reference, slack, length]));
-        let total = self.drafts.chance.between(10_000, 1_000_000);
-        for amount in self.parts(total) {
-            let ticket = self.place_order(market, side, wide_limit(side), amount)?;
-            self.say(Draft::new(6, &[ticket]));
-        }
-        Some(())
-    }
-
-    /// Brings a market's round to its end, if there is one and blocks are left.
-    fn close(&mut self, market: u64) {
-        let block = self.drafts.match_block(market);
-        if self.drafts.market(market).phase == Phase::Collect && block <= MOST {
-            self.say(Draft::new(7, &[market, block]));
-        }
-        if self.drafts.market(market).phase == Phase::Auction {
-            self.end_auction(market, 0);
-        }
-        for ticket in self.drafts.marked(market) {
-            self.say(Draft::new(10, &[ticket]));
         }
     }
 
@@ -867,7 +646,7 @@ impl<W: Write> Traffic<W> {
                 }
                 true
             }
-            // Match up to three blocks after open, and four.
+            // Match three and four blocks after open.
             1 => {
                 let Some(market) = self.drafts.find_market(Phase::Collect) else {
                     return false;
@@ -876,9 +655,7 @@ impl<W: Write> Traffic<W> {
                 if self.drafts.last() > opened + 3 || opened + 4 > MOST {
                     return false;
                 }
-                for block in self.drafts.last()..=opened + 3 {
-                    self.say(Draft::new(7, &[market, block]));
-                }
+                self.say(Draft::new(7, &[market, opened + 3]));
                 if self.drafts.market(market).marks.count_ones() > 2
                     || self.drafts.chance.once_in(4)
                 {
@@ -920,7 +697,7 @@ impl<W: Write> Traffic<W> {
                 };
                 self.bid_one_short(draft)
             }
-            // A bound missed by many and by one, then met exactly.
+            // A bound missed by one, then met exactly.
             4 => {
                 let Some(market) = self.drafts.find_market(Phase::Auction) else {
                     return false;
@@ -932,12 +709,10 @@ impl<W: Write> Traffic<W> {
                 if quote >= MOST {
                     return false;
                 }
-                let near = if draft.f[3] == 1 { quote - 1 } else { quote + 1 };
-                let far = self.drafts.chance.pick(&far_bounds(draft.f[3], quote));
-                for bound in [far, near, quote] {
-                    draft.f[5] = bound;
-                    self.say(draft);
-                }
+                draft.f[5] = if draft.f[3] == 1 { quote - 1 } else { quote + 1 };
+                self.say(draft);
+                draft.f[5] = quote;
+                self.say(draft);
                 true
             }
             // An order of one more than the balance, then of all of it.
@@ -1266,15 +1041,6 @@ impl<W: Write> Traffic<W> {
             }
         }
         numbers.join(",").into_bytes()
-    }
-}
-
-/// Bounds that a bid of a side with this quote misses by many.
-fn far_bounds(side: u64, quote: u64) -> [u64; 3] {
-    if side == 1 {
-        [quote.saturating_sub(1_000), quote.saturating_sub(MILLION), 0]
-    } else {
-        [quote + 1_000, quote + MILLION, MOST].map(|bound| bound.min(MOST))
     }
 }
 
