@@ -6,14 +6,13 @@ use native.Mathlib.Decide.{ℕ_discrete}
 use native.Mathlib.Omega.{arith}
 use Rattle.model.specs.declared.state.Exchange.{Exchange}
 use Rattle.model.specs.declared.call.Call.{Call}
-use Rattle.model.specs.declared.answer.Answer.{Answer}
 use Rattle.model.specs.declared.orders.OrderFields.{OrderFields}
 use Rattle.model.specs.declared.orders.AnswerPlace.{AnswerPlace}
 use Rattle.model.specs.View.{View, view}
 use Rattle.model.specs.Answers.{code_of, first_of, second_of}
 use Rattle.model.specs.Refusals.{ListCoded}
-use Rattle.model.specs.Answering.{AnswersAlone, CallsAnswered, ListAnswered, ListsAlone, ListsAnswered, MadeSingly, SameAnswer, SamePlaces, made_none, made_next, same_none, same_next}
-use Rattle.model.specs.OrderLists.{Listed, list_done, order_call, orders_of, place_of}
+use Rattle.model.specs.Answering.{AnswersAlone, CallsAnswered, ListsAlone, ListsAnswered, MadeSingly, SameAnswer, SamePlaces, made_none, made_next, same_none, same_next}
+use Rattle.model.specs.OrderLists.{Listed, order_call, place_of}
 use Rattle.model.specs.Run.{Reachable, after_call, after_calls, answers_to_calls, step_of}
 use Rattle.model.proofs.Moves.{accepted_moves}
 use Rattle.model.proofs.MovesAlone.{moves_alone}

@@ -11,7 +11,6 @@ use Rattle.model.specs.Codes.{CodesRising, RoomsFirst}
 use Rattle.model.specs.Run.{request_of, step_of}
 use Rattle.model.specs.declared.answer.Refusal.{Refusal}
 use Rattle.model.specs.declared.answer.Refusal.TheVariants.{BufferTooShort}
-use Rattle.model.specs.declared.answer.Refusal.TheVariants as Refusal
 use Rattle.model.specs.declared.call.Call.TheVariants as Call
 
 pub codes_rising : CodesRising

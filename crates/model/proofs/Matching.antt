@@ -88,7 +88,7 @@ module _ (r : Round) (b : RoundBounds r) where
       (λ k. ap₂ trade
       (base_is (upper_of r) m (base_of r) c refl t k (omega (arith, upper_over (base_of r) ref, mul-le-mul_right (base_of r) b.terms.order_low)))
       (t.upper k))
-      (λ a k.
+      (λ a o k.
       let e = base_is (lower_quote (base_of r) ref) m (base_of r) c refl t (omega (arith, lower_under (base_of r) ref, mul-le-mul_right (base_of r) b.terms.order_high)) k in
       ap₂ trade e (lower_is m c t a e))
       (λ a n. none_is m c t a n)

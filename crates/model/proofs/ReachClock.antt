@@ -30,7 +30,6 @@ use Rattle.model.proofs.Reading.{phase_other, phase_same}
 use Rattle.model.proofs.Steps.{step_apart}
 use Rattle.model.proofs.WholeRun.{fresh_phase}
 use Rattle.units.proofs.Decide.{Passed}
-use Rattle.model.specs.declared.call.Call.TheVariants as Call
 
 pub record Past (r : Round) (b : ℕ) : Type 0 where
   pub opened : r.opened.0 ≤ b

@@ -26,7 +26,6 @@ use Rattle.model.specs.Sides.{by_side}
 use Rattle.model.specs.State.{is_auction, is_closed, is_collect, is_entered, is_free, is_paying, order_in, round_in}
 use Rattle.model.specs.declared.answer.Outcome.{Outcome}
 use Rattle.model.specs.declared.call.Call.{Call}
-use Rattle.model.specs.declared.call.Call.TheVariants as Call
 use Rattle.model.specs.declared.state.Exchange.{Exchange}
 use Rattle.model.specs.declared.state.Order.{Order}
 use Rattle.model.specs.declared.state.Phase.{Phase}
@@ -294,6 +293,7 @@ RisingFrom a (p ∷ ps) = (a < p.code) × RisingFrom p.code ps
 
 -- no code of such a list is a or below
 holds_above : (a : ℕ) (ps : List Condition) → RisingFrom a ps → (m : ℕ) → HoldsIn m ps → a < m
+holds_above a [] u m h = elim h [ ]
 holds_above a (p ∷ ps) u m (inl h) = omega (arith, u.0, h.0)
 holds_above a (p ∷ ps) u m (inr h) = omega (arith, u.0, holds_above p.code ps u.1 m h)
 
@@ -304,6 +304,7 @@ next p ps ts n t q e = ap (λ (b : Bool). cond b p.code (first_code ps ts.1)) (s
 
 -- where the code is 0, none holds
 none_holds : (a : ℕ) (ps : List Condition) → RisingFrom a ps → (ts : Tests ps) → first_code ps ts ≡ 0 → (m : ℕ) → HoldsIn m ps → ⊥
+none_holds a [] u ts e m h = elim h [ ]
 none_holds a (p ∷ ps) u ts e m h = go ts.0.test refl h (λ z. none_holds p.code ps u.1 ts.1 z m)
   where
     go : (t : Bool) → ts.0.test ≡ t → HoldsIn m (p ∷ ps) → (first_code ps ts.1 ≡ 0 → HoldsIn m ps → ⊥) → ⊥

@@ -26,7 +26,6 @@ use Rattle.model.specs.View.{View, view}
 use Rattle.model.specs.declared.answer.Outcome.{Outcome}
 use Rattle.model.specs.declared.answer.Refusal.TheVariants.{BadOrderList}
 use Rattle.model.specs.declared.call.Call.{Call}
-use Rattle.model.specs.declared.call.Call.TheVariants as Call
 use Rattle.model.specs.declared.orders.AnswerPlace.{AnswerPlace}
 use Rattle.model.specs.declared.orders.OrderFields.{OrderFields}
 use Rattle.model.specs.declared.state.Exchange.{Exchange}
@@ -39,7 +38,7 @@ use Rattle.model.specs.declared.state.TicketState.TheVariants.{Entered, Free, Re
 use Rattle.model.proofs.Codes.{codes_rising}
 use Rattle.model.proofs.OrderLists.{list_apart}
 use Rattle.model.proofs.ReachBounds.{reachable_bounded}
-use Rattle.model.proofs.RefusalTests.{LowerQuote, UpperQuote, above_left, auction?, balance_below, collect?, first_one, first_told, free?, is_after, limit_off, none_told, not_theirs, order_of, order_phase, past_bound, paying?, phase_other, sell_price, buy_price, round_of, tellable, ticket_round, ticket_used, too_soon}
+use Rattle.model.proofs.RefusalTests.{LowerQuote, UpperQuote, above_left, auction?, balance_below, collect?, first_one, first_told, free?, is_after, limit_off, none_told, not_theirs, order_of, order_phase, past_bound, phase_other, sell_price, buy_price, round_of, tellable, ticket_round, ticket_used, too_soon}
 use Rattle.model.proofs.Steps.{step_apart}
 
 -- ---- a ticket that carries an order, and a phase that has a round
@@ -183,6 +182,7 @@ module _ (x : View) (c : Call) where
       wider : Of (4 ∷ 11 ∷ []) c → Of (4 ∷ 6 ∷ 10 ∷ 11 ∷ []) c
       wider (inl e) = inl e
       wider (inr (inl e)) = inr (inr (inr (inl e)))
+      wider (inr (inr e)) = elim e [ ]
 
       go : (t : Bool) → (free? (ticket_of x c)).test ≡ t → no_such_order x c
       go true q = inl (wider k, (free? (ticket_of x c)).yes q)
@@ -203,12 +203,14 @@ module _ (x : View) (c : Call) where
       wider : Of (6 ∷ 11 ∷ []) c → Of (4 ∷ 6 ∷ 10 ∷ 11 ∷ []) c
       wider (inl e) = inr (inl e)
       wider (inr (inl e)) = inr (inr (inr (inl e)))
+      wider (inr (inr e)) = elim e [ ]
   up_11 no_8 (inr (inr (inl (k, f)))) = inr (inr (inl (k, λ r e. f (read_collect e))))
   up_11 no_8 (inr (inr (inr (inl (k, f))))) = inr (inr (inr (inl (k, λ r e. f (read_auction e)))))
   up_11 no_8 (inr (inr (inr (inr (k, f))))) = inr (inr (inr (inr (k, (order_of x c, (carries_it no_8 (wider k), λ r e. f (read_paying e)))))))
     where
       wider : Of (10 ∷ []) c → Of (4 ∷ 6 ∷ 10 ∷ 11 ∷ []) c
       wider (inl e) = inr (inr (inl e))
+      wider (inr e) = elim e [ ]
 
   up_13 : (wrong_phase x c → ⊥) → too_soon x c → too_early x c
   up_13 no_11 (inl (k, l)) = inl (k, (round_of x c, (must_collect (phase_of x c) (λ f. no_11 (inr (inr (inl (k, f))))), l)))
@@ -216,6 +218,7 @@ module _ (x : View) (c : Call) where
     where
       wider : Of (9 ∷ []) c → Of (8 ∷ 9 ∷ []) c
       wider (inl e) = inr (inl e)
+      wider (inr e) = elim e [ ]
 
   up_15 : (no_such_order x c → ⊥) → (wrong_phase x c → ⊥) → limit_off x c → limit_out_of_bounds x c
   up_15 no_8 no_11 (k, l) = (k, (order_of x c, (in_use, (round_in (order_phase x c), (collects, l)))))
@@ -235,16 +238,26 @@ module _ (x : View) (c : Call) where
 -- a bid has a market
 bid_has_market : (c : Call) → Of (8 ∷ []) c → Has market c
 bid_has_market (Call.Deposit m t n) (inl e) = absurd (omega (arith, e))
+bid_has_market (Call.Deposit m t n) (inr e) = elim e [ ]
 bid_has_market (Call.Withdraw m t n) (inl e) = absurd (omega (arith, e))
+bid_has_market (Call.Withdraw m t n) (inr e) = elim e [ ]
 bid_has_market (Call.Order k m mk s l n) (inl e) = absurd (omega (arith, e))
+bid_has_market (Call.Order k m mk s l n) (inr e) = elim e [ ]
 bid_has_market (Call.Cancel k m) (inl e) = absurd (omega (arith, e))
+bid_has_market (Call.Cancel k m) (inr e) = elim e [ ]
 bid_has_market (Call.Open mk b r w len) (inl e) = absurd (omega (arith, e))
+bid_has_market (Call.Open mk b r w len) (inr e) = elim e [ ]
 bid_has_market (Call.Enter k) (inl e) = absurd (omega (arith, e))
+bid_has_market (Call.Enter k) (inr e) = elim e [ ]
 bid_has_market (Call.Match mk b) (inl e) = absurd (omega (arith, e))
+bid_has_market (Call.Match mk b) (inr e) = elim e [ ]
 bid_has_market (Call.Bid mk m b s n bd) k = inl refl
 bid_has_market (Call.Settle mk b) (inl e) = absurd (omega (arith, e))
+bid_has_market (Call.Settle mk b) (inr e) = elim e [ ]
 bid_has_market (Call.Claim k) (inl e) = absurd (omega (arith, e))
+bid_has_market (Call.Claim k) (inr e) = elim e [ ]
 bid_has_market (Call.Leave k m) (inl e) = absurd (omega (arith, e))
+bid_has_market (Call.Leave k m) (inr e) = elim e [ ]
 
 module _ (x : Exchange) (l : Reachable x) (c : Call) (no_3 : no_such_market c → ⊥) (no_11 : wrong_phase (view x) c → ⊥) (no_12 : stale_block (view x) c → ⊥) (no_16 : auction_over (view x) c → ⊥) where
   -- the prices of the definitions are those by their meaning
@@ -313,6 +326,7 @@ holds_down x c n (inr (inr (inr (inr (inr (inr (inr (inr (inr (inr (inr (inr (in
 holds_down x c n (inr (inr (inr (inr (inr (inr (inr (inr (inr (inr (inr (inr (inr (inr (inr (inr (inl (e, h)))))))))))))))))) = inr (inr (inr (inr (inr (inr (inr (inr (inr (inr (inr (inr (inr (inr (inr (inr (inl (e, down_17 x c h)))))))))))))))))
 holds_down x c n (inr (inr (inr (inr (inr (inr (inr (inr (inr (inr (inr (inr (inr (inr (inr (inr (inr (inl (e, h))))))))))))))))))) = inr (inr (inr (inr (inr (inr (inr (inr (inr (inr (inr (inr (inr (inr (inr (inr (inr (inl (e, down_18 x c h))))))))))))))))))
 holds_down x c n (inr (inr (inr (inr (inr (inr (inr (inr (inr (inr (inr (inr (inr (inr (inr (inr (inr (inr (inl (e, h)))))))))))))))))))) = inr (inr (inr (inr (inr (inr (inr (inr (inr (inr (inr (inr (inr (inr (inr (inr (inr (inr (inl (e, down_19 x c h)))))))))))))))))))
+holds_down x c n (inr (inr (inr (inr (inr (inr (inr (inr (inr (inr (inr (inr (inr (inr (inr (inr (inr (inr (inr h))))))))))))))))))) = elim h [ ]
 
 -- of a call that nothing below n meets
 module _ (x : Exchange) (l : Reachable x) (c : Call) where
@@ -336,6 +350,7 @@ module _ (x : Exchange) (l : Reachable x) (c : Call) where
   holds_up n low (inr (inr (inr (inr (inr (inr (inr (inr (inr (inr (inr (inr (inr (inr (inr (inr (inl (e, h)))))))))))))))))) = inr (inr (inr (inr (inr (inr (inr (inr (inr (inr (inr (inr (inr (inr (inr (inr (inl (e, up_17 x l c (λ z. low 3 (omega (arith, e)) (inr (inr (inl (refl, z))))) (λ z. low 11 (omega (arith, e)) (inr (inr (inr (inr (inr (inr (inr (inr (inr (inr (inl (refl, z))))))))))))) (λ z. low 12 (omega (arith, e)) (inr (inr (inr (inr (inr (inr (inr (inr (inr (inr (inr (inl (refl, z)))))))))))))) (λ z. low 16 (omega (arith, e)) (inr (inr (inr (inr (inr (inr (inr (inr (inr (inr (inr (inr (inr (inr (inr (inl (refl, z)))))))))))))))))) h)))))))))))))))))
   holds_up n low (inr (inr (inr (inr (inr (inr (inr (inr (inr (inr (inr (inr (inr (inr (inr (inr (inr (inl (e, h))))))))))))))))))) = inr (inr (inr (inr (inr (inr (inr (inr (inr (inr (inr (inr (inr (inr (inr (inr (inr (inl (e, up_18 x l c (λ z. low 3 (omega (arith, e)) (inr (inr (inl (refl, z))))) (λ z. low 11 (omega (arith, e)) (inr (inr (inr (inr (inr (inr (inr (inr (inr (inr (inl (refl, z))))))))))))) (λ z. low 12 (omega (arith, e)) (inr (inr (inr (inr (inr (inr (inr (inr (inr (inr (inr (inl (refl, z)))))))))))))) (λ z. low 16 (omega (arith, e)) (inr (inr (inr (inr (inr (inr (inr (inr (inr (inr (inr (inr (inr (inr (inr (inl (refl, z)))))))))))))))))) h))))))))))))))))))
   holds_up n low (inr (inr (inr (inr (inr (inr (inr (inr (inr (inr (inr (inr (inr (inr (inr (inr (inr (inr (inl (e, h)))))))))))))))))))) = inr (inr (inr (inr (inr (inr (inr (inr (inr (inr (inr (inr (inr (inr (inr (inr (inr (inr (inl (e, up_19 x l c (λ z. low 3 (omega (arith, e)) (inr (inr (inl (refl, z))))) (λ z. low 11 (omega (arith, e)) (inr (inr (inr (inr (inr (inr (inr (inr (inr (inr (inl (refl, z))))))))))))) (λ z. low 12 (omega (arith, e)) (inr (inr (inr (inr (inr (inr (inr (inr (inr (inr (inr (inl (refl, z)))))))))))))) (λ z. low 16 (omega (arith, e)) (inr (inr (inr (inr (inr (inr (inr (inr (inr (inr (inr (inr (inr (inr (inr (inl (refl, z)))))))))))))))))) h)))))))))))))))))))
+  holds_up n low (inr (inr (inr (inr (inr (inr (inr (inr (inr (inr (inr (inr (inr (inr (inr (inr (inr (inr (inr h))))))))))))))))))) = elim h [ ]
 
 -- ---- a call's code
 

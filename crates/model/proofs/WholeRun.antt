@@ -51,7 +51,6 @@ use Rattle.model.proofs.Steps.{step_apart, step_passed}
 use Rattle.model.proofs.TicketOf.{entered_of}
 use Rattle.units.proofs.Decide.{Passed}
 use Rattle.units.proofs.Sums.{sum_zero}
-use Rattle.model.specs.declared.call.Call.TheVariants as Call
 
 -- ---- every call
 

@@ -5,7 +5,6 @@ use Rattle.units.specs.Ranges.{most_orders}
 use Rattle.units.specs.Decide.{Test, when, decide}
 use Rattle.model.specs.declared.state.Exchange.{Exchange}
 use Rattle.model.specs.declared.call.Call.{Call}
-use Rattle.model.specs.declared.call.Call.TheVariants as Call
 use Rattle.model.specs.declared.answer.Refusal.{Refusal}
 use Rattle.model.specs.declared.answer.Refusal.TheVariants.{BadOrderList}
 use Rattle.model.specs.declared.answer.Answer.{Answer}
