@@ -14,7 +14,7 @@ to_amount-quote-requires c =
     let a = c.args in
     let base : c.base_within-base.result.0 ≡ match_base a.q.0 a.s.0 a.reference.0 = c.base_within-base.ensures in
     let quote : c.quote_up.result.0 ≡ match_quote (match_base a.q.0 a.s.0 a.reference.0) a.reference.0 =
-        c.quote_up.ensures ∙ ap (λ (x : ℕ). up (x * a.reference.0) million) base in
+    c.quote_up.ensures ∙ ap (λ (x : ℕ). up (x * a.reference.0) million) base in
     omega (arith, quote, quote_le a.q.0 a.s.0 a.reference.0)
 
 pub to_amount-lower-requires : goal.to_amount-lower-requires
@@ -23,7 +23,7 @@ to_amount-lower-requires c =
     let a = c.args in
     let base : c.base_within-base.result.0 ≡ match_base a.q.0 a.s.0 a.reference.0 = c.base_within-base.ensures in
     let lower : c.quote_down.result.0 ≡ lower_quote (match_base a.q.0 a.s.0 a.reference.0) a.reference.0 =
-        c.quote_down.ensures ∙ ap (λ (x : ℕ). down (x * a.reference.0) million) base in
+    c.quote_down.ensures ∙ ap (λ (x : ℕ). down (x * a.reference.0) million) base in
     omega (arith, lower, lower_le (match_base a.q.0 a.s.0 a.reference.0) a.reference.0, quote_le a.q.0 a.s.0 a.reference.0)
 
 -- the quote rounded up is above hi
