@@ -1,30 +1,26 @@
 -- The statements of demand 1 used.
 use Prim.Native.Nat.{ℕ, suc, ◌+◌, ◌*◌, ◌<◌, ◌≤◌}
 use mathlib.Core.List.{List}
-use mathlib.Core.Logic.{◌⊎◌, inl, inr, ⊎_elim}
+use mathlib.Core.Logic.{inl, inr, ⊎_elim}
 use mathlib.Core.Path.{◌∙◌, ◌≡◌, ap, refl, subst, subst₂, sym}
 use native.Mathlib.Omega.{arith}
 use lib.ListN.{length}
 use Rattle.units.specs.Rounding.{RoundedDown, RoundedUp}
 use Rattle.ticket_set.specs.TicketSet.{bit}
 use Rattle.units.proofs.Tested.{at_least}
-use Rattle.model.specs.declared.state.Exchange.{Exchange}
 use Rattle.model.specs.declared.state.Order.{Order}
 use Rattle.model.specs.declared.state.Round.{Round}
 use Rattle.model.specs.declared.state.Phase.{Phase}
-use Rattle.model.specs.declared.state.Phase.TheVariants.{Auction, Collect}
 use Rattle.model.specs.declared.state.TicketState.{TicketState}
-use Rattle.model.specs.declared.state.TicketState.TheVariants.{Entered, Free, Resting}
+use Rattle.model.specs.declared.state.TicketState.TheVariants.{Entered, Resting}
 use Rattle.model.specs.declared.call.Call.{Call}
 use Rattle.model.specs.declared.call.Call.TheVariants.{Deposit, Withdraw, Order as Place, Cancel, Open, Enter, Match, Bid, Settle, Claim, Leave}
 use Rattle.model.specs.declared.orders.AnswerPlace.{AnswerPlace}
 use Rattle.model.specs.declared.orders.OrderFields.{OrderFields}
-use Rattle.model.specs.State.{balance, order_in, phase, round_in, supply, ticket}
+use Rattle.model.specs.State.{balance, order_in, round_in, supply, ticket}
 use Rattle.model.specs.View.{View, view}
 use Rattle.model.specs.Refusals.{Priced, bad_order_list}
 use Rattle.model.specs.Moves.{Moved}
-use Rattle.model.specs.Answering.{CallsAnswered}
-use Rattle.model.specs.Run.{Reachable}
 use Rattle.model.proofs.Refusals.{Unmet, prices_alone, unmet}
 use Rattle.cases.specs.AnswerCases.{AnswersUsed, KindsSay, ListsUsed, after, code_after, first_after, second_after}
 

@@ -36,7 +36,7 @@ pub stages_told
 unfolding stages
 stages_told = refl
 
-pub logs_changed
+pub logs_changed_lem
     : map log_numbers logs_changed
     ≡ (1 ∷ 2 ∷ 3 ∷ 4 ∷ 5 ∷ 6 ∷ 7 ∷ 8 ∷ [])
     ∷ (2 ∷ 2 ∷ 3 ∷ 4 ∷ 5 ∷ 6 ∷ 7 ∷ 8 ∷ [])
@@ -52,7 +52,7 @@ pub logs_changed
     ∷ (0 ∷ 0 ∷ 0 ∷ 0 ∷ 0 ∷ 0 ∷ 0 ∷ 0 ∷ [])
     ∷ []
 unfolding logs_changed
-logs_changed = refl
+logs_changed_lem = refl
 
 pub rounds_at_stage : map current_numbers changes ≡ [] ∷ (9 ∷ []) ∷ (4 ∷ []) ∷ (0 ∷ []) ∷ (4 ∷ []) ∷ []
 unfolding changes

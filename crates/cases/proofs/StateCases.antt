@@ -44,7 +44,7 @@ rounds_told = refl
 pub sides_told : map (λ s. totals_fields (totals_of numbered s)) (Buy ∷ Sell ∷ []) ≡ (8 ∷ 9 ∷ 10 ∷ []) ∷ (11 ∷ 12 ∷ 13 ∷ []) ∷ []
 sides_told = refl
 
-pub rounds_changed
+pub rounds_changed_lem
     : map round_fields rounds_changed
     ≡ (1 ∷ 2 ∷ 3 ∷ 4 ∷ 5 ∷ 20 ∷ 7 ∷ 8 ∷ 9 ∷ 10 ∷ 11 ∷ 12 ∷ 13 ∷ 14 ∷ 15 ∷ [])
     ∷ (1 ∷ 2 ∷ 3 ∷ 4 ∷ 5 ∷ 6 ∷ 20 ∷ 8 ∷ 9 ∷ 10 ∷ 11 ∷ 12 ∷ 13 ∷ 14 ∷ 15 ∷ [])
@@ -60,9 +60,9 @@ pub rounds_changed
     ∷ (0 ∷ 0 ∷ 0 ∷ 0 ∷ 0 ∷ 0 ∷ 0 ∷ 0 ∷ 0 ∷ 0 ∷ 0 ∷ 0 ∷ 0 ∷ 0 ∷ 0 ∷ [])
     ∷ []
 unfolding rounds_changed call_computes
-rounds_changed = refl
+rounds_changed_lem = refl
 
-pub states_changed
+pub states_changed_lem
     : map state_numbers states_changed
     ≡ (1 ∷ 2 ∷ 3 ∷ 4 ∷ 5 ∷ 6 ∷ 0 ∷ 0 ∷ 0 ∷ 0 ∷ 0 ∷ [])
     ∷ (1 ∷ 2 ∷ 3 ∷ 4 ∷ 5 ∷ 6 ∷ 20 ∷ 0 ∷ 0 ∷ 0 ∷ 0 ∷ [])
@@ -76,7 +76,7 @@ pub states_changed
     ∷ (1 ∷ 2 ∷ 3 ∷ 4 ∷ 5 ∷ 20 ∷ 0 ∷ 0 ∷ 0 ∷ 0 ∷ 0 ∷ [])
     ∷ []
 unfolding states_changed call_computes
-states_changed = refl
+states_changed_lem = refl
 
 pub enter_leave_used : EnterLeaveUsed
 enter_leave_used =
