@@ -1,5 +1,5 @@
 -- Bytes, and what they are by the form of a line: borders of a digit, a number and a line, worked by hand.
-use Rattle.std.specs.Prelude.{ℕ, zero, suc, Bool, true, false, List, [], ◌∷◌, ◌++◌, replicate}
+use Rattle.std.specs.Prelude.{ℕ, zero, suc, Bool, true, false, List, [], ◌∷◌, replicate}
 use Rattle.std.proofs.Math.Option.{Option, some, none}
 use Rattle.fields.specs.declared.Fields.{Fields}
 use Rattle.fields.specs.declared.FieldStep.{FieldStep}

@@ -39,6 +39,7 @@ fn is_digit(b: u8) -> bool
 }
 
 // The byte b after a field's value. started says that the field has a digit already.
+#[tactic(auto, unfolding(crate::specs::Fields::field_step))]
 fn field_step(started: bool, value: u32, b: u8) -> FieldStep
     ensures { result ≡ field_step started value b }
 {
@@ -61,6 +62,7 @@ fn field_step(started: bool, value: u32, b: u8) -> FieldStep
 }
 
 // The byte at a place as a field's first. The field is empty where that is no digit, and at the bytes' end.
+#[tactic(auto, unfolding(crate::specs::Fields::first_step))]
 fn first_step(bytes: &[u8], at: usize) -> FieldStep
     ensures { result ≡ first_step bytes.now at }
 {
@@ -71,6 +73,7 @@ fn first_step(bytes: &[u8], at: usize) -> FieldStep
 }
 
 // Whether a comma stands at a place.
+#[tactic(auto, unfolding(crate::specs::Fields::comma_at))]
 fn comma_at(bytes: &[u8], at: usize) -> bool
     ensures { result ≡ comma_at bytes.now at }
 {
