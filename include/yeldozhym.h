@@ -1,10 +1,10 @@
 /*
  * Yeldozhym: a day of call lines worked as a whole, and the line of a call written from its numbers, for hosts in C (C11), in C++ (C++11) and
  * in whatever calls C. No state crosses to C yet: yeldozhym_day works a whole day at once, from the fresh state to its last line. A harness
- * that wants the answer to each line before it sends the next runs the program target/bin/day over pipes, as examples/c/harness.c does.
+ * that wants the answer to each line before it sends the next runs the program crates/day/out/day over pipes, as examples/c/harness.c does.
  *
- * Link libyeldozhym.a, which `rt staticlib yeldozhym` proves and writes to target/staticlib (x86-64 Linux); it needs memcpy, memmove and
- * memset of the C library.
+ * Link libyeldozhym.a, which `rt lib` in crates/yeldozhym proves and writes to crates/yeldozhym/out (Linux on x86-64-v2, that is with SSE4.2
+ * and POPCNT); it needs memcpy, memmove and memset of the C library.
  */
 #ifndef YELDOZHYM_H
 #define YELDOZHYM_H
@@ -17,7 +17,7 @@ extern "C" {
 #endif
 
 /* The version of the tree that this header is from: what its file VERSION has. The archive carries none: take both from one tree. */
-#define YELDOZHYM_VERSION "4.1.0"
+#define YELDOZHYM_VERSION "4.0.0"
 
 /* No answer line is longer, its byte 10 included. The header before the first answer line takes YELDOZHYM_HEADER bytes. */
 #define YELDOZHYM_LONGEST_ANSWER 35UL
@@ -46,7 +46,7 @@ extern "C" {
  * Answers the length of that text. Where it is at most out_len, the text is at the start of out and no byte after it has changed. Where it
  * is more, no byte of out has changed. So the text was written exactly where the answer is at most out_len, and a call with out_len 0 asks
  * for the room. YELDOZHYM_HEADER + YELDOZHYM_LONGEST_ANSWER * lines bytes are always enough, where lines counts a last line without byte 10
- * too. Any bytes will do as input: the call has no other way to fail. This is proved; the text is `dayOf` of crates/replay/specs/Days.antt.
+ * too. Any bytes will do as input: the call has no other way to fail. This is proved; the text is `day_of` of crates/replay/specs/Days.antt.
  *
  * NEITHER POINTER MAY BE NULL, EVEN WHERE ITS LENGTH IS 0. The data of an empty vector may be null: hand that to yeldozhym_work_day, below.
  * What else a caller must keep to, which nothing checks: input points to input_len bytes that may be read, out to out_len bytes that may be
@@ -83,8 +83,8 @@ inline size_t yeldozhym_work_day(const uint8_t *input, size_t input_len, uint8_t
  * enough. Answers 0, and no byte of out has changed, where place is past the end of out or what follows it is too short, which is 21 in
  * document 02, or where no kind has this number with so many fields. Where place <= out_len and out_len - place >= YELDOZHYM_LONGEST_CALL, 0
  * means the last alone; yeldozhym_put_call, below, tells the two apart. Any place up to SIZE_MAX will do. No field is tested: any numbers are
- * written, and the day refuses what is out of range. This is proved; what is answered is `writtenLength` of
- * crates/call_writer/specs/Writing.antt, the buffer after it `putFrom`.
+ * written, and the day refuses what is out of range. This is proved; what is answered is `written_length` of
+ * crates/call_writer/specs/Writing.antt, the buffer after it `put_from`.
  *
  * NEITHER POINTER MAY BE NULL, EVEN WHERE ITS LENGTH IS 0: hand such pointers to yeldozhym_write_line, below. fields points to count numbers
  * that may be read, at an address that is aligned for uint32_t. All else is as for yeldozhym_day, with fields for input: what nothing checks,
@@ -117,7 +117,7 @@ struct yeldozhym_put {
  *   20  no kind has this number with so many fields, so there is no line, whatever room there is; length is 0
  *   21  it is a call, and place is past the end of out or what follows it is too short; length is 0
  *
- * No byte of out has changed with 20 and 21. This is proved; what is answered is `putOf` of crates/call_writer/specs/Writing.antt, and code by
+ * No byte of out has changed with 20 and 21. This is proved; what is answered is `put_of` of crates/call_writer/specs/Writing.antt, and code by
  * code `PutTells` of crates/call_writer/specs/Putting.antt. All else is as for yeldozhym_call_line, null pointers too: hand those to
  * yeldozhym_put_line, below.
  */

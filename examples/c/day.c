@@ -2,8 +2,8 @@
  * Works a day: reads call lines from standard input to its end and writes the answers to standard output.
  * Says a read or write that fails on standard error, and ends with status 1.
  *
- *   rt staticlib yeldozhym
- *   cc -Iinclude -o day examples/c/day.c target/staticlib/libyeldozhym.a
+ *   (cd crates/yeldozhym && rt lib)
+ *   cc -Iinclude -o day examples/c/day.c crates/yeldozhym/out/libyeldozhym.a
  */
 #include <errno.h>
 #include <stdint.h>

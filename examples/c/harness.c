@@ -2,9 +2,9 @@
  * Makes calls one by one: runs the day program over two pipes, sends it each line of standard input and prints the answer line before it sends
  * the next. The header comes first. Says on standard error what fails; then the status is 1.
  *
- *   rt check day
+ *   (cd crates/day && rt run </dev/null)
  *   cc -o harness examples/c/harness.c
- *   ./harness target/bin/day <TRAFFIC
+ *   ./harness crates/day/out/day <TRAFFIC
  */
 #define _POSIX_C_SOURCE 200809L
 

@@ -2,8 +2,8 @@
  * Writes call lines: reads rows from standard input, each the kind and the fields of a call as numbers parted by blanks, and writes the line
  * of each call to standard output. Says on standard error which rows are no calls, and a read or write that fails; then the status is 1.
  *
- *   rt staticlib yeldozhym
- *   cc -Iinclude -o lines examples/c/lines.c target/staticlib/libyeldozhym.a
+ *   (cd crates/yeldozhym && rt lib)
+ *   cc -Iinclude -o lines examples/c/lines.c crates/yeldozhym/out/libyeldozhym.a
  */
 #include <errno.h>
 #include <stdint.h>

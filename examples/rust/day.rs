@@ -1,8 +1,8 @@
 //! Works a day: reads call lines from standard input to its end and writes the answers to standard output.
 //! Says a read or write that fails on standard error, and ends with status 1.
 //!
-//!     rt staticlib yeldozhym
-//!     rustc --edition 2021 -O -L native=target/staticlib -o day examples/rust/day.rs
+//!     (cd crates/yeldozhym && rt lib)
+//!     rustc --edition 2021 -O -L native=crates/yeldozhym/out -o day examples/rust/day.rs
 
 // Without Rust's start code: it opens /dev/null in the place of a standard stream that is closed, so that the day would be empty, or its
 // answers go nowhere. It ignores SIGPIPE too; here, as in C, a reader that leaves ends the program.

@@ -1,8 +1,8 @@
 //! Writes call lines: reads rows from standard input, each the kind and the fields of a call as numbers parted by blanks, and writes the line
 //! of each call to standard output. Says on standard error which rows are no calls, and a read or write that fails; then the status is 1.
 //!
-//!     rt staticlib yeldozhym
-//!     rustc --edition 2021 -O -L native=target/staticlib -o lines examples/rust/lines.rs
+//!     (cd crates/yeldozhym && rt lib)
+//!     rustc --edition 2021 -O -L native=crates/yeldozhym/out -o lines examples/rust/lines.rs
 
 // Without Rust's start code, which hides that a standard stream is closed and that a reader leaves; see day.rs.
 #![no_main]

@@ -1,5 +1,5 @@
 //! The library for Rust: the functions of include/yeldozhym.h over slices. A program takes this file as a module and is linked with
-//! `-L native=target/staticlib`.
+//! `-L native=crates/yeldozhym/out`.
 
 // a program may use some of the functions and not the others
 #![allow(dead_code)]
