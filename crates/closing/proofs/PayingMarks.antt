@@ -18,7 +18,6 @@ use Rattle.model.specs.Sides.{gives, offered, side_of, takes, wanted}
 use Rattle.model.specs.State.{credit, debit, is_entered, order_in, phase, resting_or, round_in, ticket, to_residue, with_phase, with_ticket}
 use Rattle.model.specs.declared.answer.Outcome.{Outcome}
 use Rattle.model.specs.declared.call.Call.{Call}
-use Rattle.model.specs.declared.call.Call.TheVariants as Call
 use Rattle.model.specs.declared.state.Exchange.{Exchange}
 use Rattle.model.specs.declared.state.Order.{Order}
 use Rattle.model.specs.declared.state.Phase.{Phase}

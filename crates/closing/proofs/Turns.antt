@@ -20,7 +20,6 @@ use Rattle.model.specs.declared.state.Market.{Market}
 use Rattle.model.specs.declared.state.Phase.TheVariants.{Closed, Paying}
 use Rattle.model.specs.declared.state.Round.{Round}
 use Rattle.model.specs.declared.call.Call.{Call}
-use Rattle.model.specs.declared.call.Call.TheVariants as Call
 use Rattle.model.specs.declared.answer.Answer.TheVariants.{Refused}
 use Rattle.model.specs.declared.answer.Outcome.{Outcome}
 use Rattle.model.specs.State.{closed_market, is_paying, phase, round_in}
