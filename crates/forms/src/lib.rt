@@ -1,5 +1,5 @@
 // Refusals that a call's numbers alone decide, first in the paper's order.
-#![tactic(auto)]
+#![tactic(auto, unfolding(parts::specs::Parts::form_of))]
 
 ghost use Rattle.std.specs.Prelude.{◌≡◌};
 ghost use Rattle.model.specs.Calls.{bank_form, order_form, cancel_form, open_form, ticket_form, market_form, bid_form};
