@@ -5,7 +5,8 @@
 ghost use Rattle.std.specs.Prelude.{◌+◌, ◌≤◌, length};
 
 use decimal::{put_number, wide, write_field};
-use libc::STDOUT_FILENO;
+use std::io::{self, Write};
+use std::time::Clock;
 
 // The largest number of 32 bits.
 const LARGEST: u64 = 4_294_967_295;
@@ -29,18 +30,31 @@ fn put(part: &mut [u8], n: u64, is_wide: bool) -> usize
     put_number(part, (n % (LARGEST + 1)) as u32)
 }
 
-// Ends the line that a part of room bytes begins, and prints it: a comma, at most ten digits and byte 10. Answers whether it was written.
-fn print_line(line: &mut [u8], room: usize, used: usize) -> bool
+// Ends the line that a part of room bytes begins, and prints it: a comma, at most ten digits and byte 10.
+fn print_line<W: Write>(
+    clock: &impl Clock,
+    to: &mut W,
+    line: &mut [u8],
+    room: usize,
+    used: usize,
+) -> io::Result<()>
     requires room_in_bounds { room + 12 ≤ length line.old }
     requires used_bound { used ≤ 21 }
 {
     line[room] = b',';
     let end = write_field(line, room + 1, used as u32, 10);
-    stdio::write(STDOUT_FILENO, &line[..end]) == end
+    stdio::write_all(clock, to, &line[..end])
 }
 
 // A number into parts of up to most bytes.
-fn try_parts(line: &mut [u8], n: u64, is_wide: bool, most: usize) -> bool
+fn try_parts<W: Write>(
+    clock: &impl Clock,
+    to: &mut W,
+    line: &mut [u8],
+    n: u64,
+    is_wide: bool,
+    most: usize,
+) -> io::Result<()>
     requires in_bounds { 33 ≤ length line.old }
     requires most_bound { most ≤ 21 }
 {
@@ -48,70 +62,52 @@ fn try_parts(line: &mut [u8], n: u64, is_wide: bool, most: usize) -> bool
     while room <= most {
         fill(line);
         let used = put(&mut line[..room], n, is_wide);
-        if !print_line(line, room, used) {
-            return false;
-        }
+        print_line(clock, to, line, room, used)?;
         room = room + 1;
     }
-    true
+    Ok(())
 }
 
 // A number by both writers, where both take it.
-fn try_both(line: &mut [u8], n: u64) -> bool
+fn try_both<W: Write>(clock: &impl Clock, to: &mut W, line: &mut [u8], n: u64) -> io::Result<()>
     requires { 33 ≤ length line.old }
 {
-    if !try_parts(line, n, true, 21) {
-        return false;
-    }
+    try_parts(clock, to, line, n, true, 21)?;
     if LARGEST < n {
-        return true;
+        return Ok(());
     }
-    try_parts(line, n, false, 11)
+    try_parts(clock, to, line, n, false, 11)
 }
 
 // A number, and what is left of it by tenths down to its first digit.
-fn try_tenths(line: &mut [u8], n: u64) -> bool
+fn try_tenths<W: Write>(clock: &impl Clock, to: &mut W, line: &mut [u8], n: u64) -> io::Result<()>
     requires { 33 ≤ length line.old }
 {
     let mut m = n;
     while 0 < m {
-        if !try_both(line, m) {
-            return false;
-        }
+        try_both(clock, to, line, m)?;
         m = m / 10;
     }
-    true
+    Ok(())
 }
 
 // Every count of digits: its largest and its smallest number, and others.
-fn try_all(line: &mut [u8]) -> bool
+fn try_all<W: Write>(clock: &impl Clock, to: &mut W, line: &mut [u8]) -> io::Result<()>
     requires { 33 ≤ length line.old }
 {
-    if !try_tenths(line, 18_446_744_073_709_551_615) {
-        return false;
-    }
-    if !try_tenths(line, 10_000_000_000_000_000_000) {
-        return false;
-    }
-    if !try_tenths(line, 9_999_999_999_999_999_999) {
-        return false;
-    }
-    if !try_tenths(line, 9_876_543_210_987_654_321) {
-        return false;
-    }
-    if !try_tenths(line, 4_294_967_296) {
-        return false;
-    }
-    if !try_tenths(line, 4_294_967_295) {
-        return false;
-    }
-    try_both(line, 0)
+    try_tenths(clock, to, line, 18_446_744_073_709_551_615)?;
+    try_tenths(clock, to, line, 10_000_000_000_000_000_000)?;
+    try_tenths(clock, to, line, 9_999_999_999_999_999_999)?;
+    try_tenths(clock, to, line, 9_876_543_210_987_654_321)?;
+    try_tenths(clock, to, line, 4_294_967_296)?;
+    try_tenths(clock, to, line, 4_294_967_295)?;
+    try_both(clock, to, line, 0)
 }
 
 // A write that fails is told on standard error, and ends the program.
-fn main() {
+fn main(rt: HostRuntime) {
     let mut line = [0; 33];
-    if !try_all(&mut line) {
-        os::fail(b"numbers: cannot write");
+    if let Err(e) = try_all(&rt, &mut rt.stdout(), &mut line) {
+        stdio::fail(&mut rt.stderr(), b"numbers: cannot write", e);
     }
 }
