@@ -6,15 +6,20 @@
 #   fn             a public function: its parameters and its result, each clause of its contract, and by "with" where the other words of its clauses come from
 # Types have their crate and module, by the file's `use` lines; white space is normalised. A clause that reads the same could mean another thing by its words; so
 # these are faults, and are printed:
-#   a `ghost use`, or a `use` of specs, of anything but the library (Prim, mathlib, lib) and specs; a whole module brought to clauses; a word that no clause uses
-#   an operator, or a name that the library has, that is brought from elsewhere, under another name or from two modules, or that specs define
+#   a `ghost use`, or a `use` of specs, of anything but the kit's libraries and specs; a whole module brought to clauses; a word that no clause uses
+#   an operator, or a name that the library has, that is brought from elsewhere, under another name or, to a clause, from two modules, or that specs define, cases apart
 #   a parameter or a bound name that hides what is brought; a path or a comment in a clause; a word of a clause that comes from nowhere
 #   a type that a paragraph names and that has none
 #   an item that is not known here
 
 function fault(place, what) { print place ": " what; faults++ }
 function at(i) { return file ":" line[i] }
-function is_operator(name) { return name ~ /_/ || name !~ /[A-Za-z0-9]/ }
+function is_operator(name) { return index(name, "◌") || name !~ /[A-Za-z0-9]/ }
+# a module of a library of the kit
+function is_library(path,    part) {
+    split(path, part, ".")
+    return path ~ /^(Prim|mathlib|lib|denote|contract)\./ || path ~ /^Rattle\./ && !(part[2] in ours)
+}
 function squeezed(s) { gsub(/[ \t\n]+/, " ", s); sub(/^ /, "", s); sub(/ $/, "", s); return s }
 
 # ---- words that are brought
@@ -31,8 +36,8 @@ function brought(place, tree, clauses,    path, n, leaf, i, pair, name, library)
     }
     path = tree
     sub(/\.[{].*/, "", path)
-    library = path ~ /^(Prim|mathlib|lib)\./
-    if (!library && path !~ /^Rattle·[a-z0-9_]+(·specs\.specs|\.specs)\./) fault(place, "brings words of " path)
+    library = is_library(path)
+    if (!library && path !~ /^Rattle\.[a-z0-9_]+\.specs\./) fault(place, "brings words of " path)
     sub(/^[^{]*[{]/, "", tree)
     sub(/,? ?[}]$/, "", tree)
     n = split(tree, leaf, /, */)
@@ -43,8 +48,10 @@ function brought(place, tree, clauses,    path, n, leaf, i, pair, name, library)
         if (name ~ / as /) name = pair[2]
         brings[FILENAME, name]
         if (library && name == pair[1]) {
-            if (name in home && home[name] != path) fault(place, name " of " path ", elsewhere of " home[name])
-            home[name] = path
+            if (!(name in home) || clauses) home[name] = path
+            if (!((name, path) in told_of)) homes[name] = homes[name] ", " path
+            told_of[name, path]
+            if (clauses) clause_place[name] = place
         } else {
             if (is_operator(name) || is_operator(pair[1])) fault(place, "brings an operator, " leaf[i] ", of " path)
             # whether the library has the name is known at the end
@@ -80,7 +87,7 @@ function spec_line(s,    n, part, i) {
     n = split(squeezed(s), part, " ")
     if (s ~ /^(pub )?mod / && part[n] ~ HEADS) fault(FILENAME ":" FNR, "a module " part[n])
     i = 1
-    while (part[i] ~ /^(abbrev|unfoldable|pub)$/) i++
+    while (part[i] ~ /^(abbrev|unfoldable|irreducible|pub)$/) i++
     if (s ~ /^[^ ]/) in_record = part[i] == "record"
     if (part[i] ~ /^(record|data)$/ && part[i + 1] != "{") define(part[i + 1], 0)
     else if (s ~ /^[^(){}=]+ :( |$)/ && part[i] !~ /^(→|let)$/)
@@ -91,6 +98,7 @@ function spec_line(s,    n, part, i) {
 function define(name, field) {
     if (is_operator(name)) fault(FILENAME ":" FNR, "defines an operator, " name)
     if (field && !((FILENAME, name) in brings) && !(name in prelude)) return
+    if (FILENAME ~ /(Examples|Cases)\.antt$/) return
     named[++names] = name
     named_at[names] = FILENAME ":" FNR
 }
@@ -98,11 +106,13 @@ function define(name, field) {
 # ---- a source as tokens; what stands in a clause's braces is one, and the tree of a `ghost use`
 
 function push(s) {
+    # a clause's name
+    if (tok[toks] ~ /^(requires|ensures)$/ && s ~ /^[a-z]/) { tok[toks] = tok[toks] " " s ":"; return }
     tok[++toks] = s
     spaced[toks] = space
     line[toks] = FNR
     space = 0
-    if (s == "{" && tok[toks - 1] ~ /^(requires|ensures|ghost)$/) { depth = 1; raw = "" }
+    if (s == "{" && tok[toks - 1] ~ CLAUSE) { depth = 1; raw = "" }
     if (s == "use" && tok[toks - 1] == "ghost") { in_tree = 1; raw = "" }
 }
 
@@ -143,6 +153,14 @@ function closed(i,    open) {
     }
     return toks + 1
 }
+# behind the brackets of type parameters at i, or i
+function after_generics(i,    open) {
+    for (; tok[i] == "<" || open; i++) {
+        if (tok[i] == "<") open++
+        if (tok[i] == ">") open--
+    }
+    return i
+}
 function next_of(i, s) { while (i <= toks && tok[i] != s) i++; return i }
 
 # ---- its items
@@ -151,8 +169,9 @@ function items(end, prefix,    attribute, public, what, q, name) {
     while (p <= end) {
         for (attribute = ""; tok[p] == "#"; p = q + 1) {
             q = closed(p + 1)
-            attribute = attribute " " text(p, q, 0)
+            if (tok[p + 1] != "!") attribute = attribute " " text(p, q, 0)
         }
+        if (p > end) return
         public = tok[p] == "pub"
         p += public
         what = tok[p]
@@ -187,9 +206,10 @@ function items(end, prefix,    attribute, public, what, q, name) {
                 p += 2
                 name = prefix tok[p + 1]
             }
-            if (tok[p + 2] != "(") { unread(p); return }
-            for (q = closed(p + 2) + 1; q <= toks && tok[q] != "{"; q += 1 + (tok[q] ~ /^(requires|ensures|ghost)$/))
-                if (tok[q] ~ /^(requires|ensures|ghost)$/) clause_texts = clause_texts " " tok[q + 1]
+            q = after_generics(p + 2)
+            if (tok[q] != "(") { unread(p); return }
+            for (q = closed(q) + 1; q <= toks && tok[q] != "{"; q += 1 + (tok[q] ~ CLAUSE))
+                if (tok[q] ~ CLAUSE) clause_texts = clause_texts " " tok[q + 1]
             if (public) keep("fn", name, p + 2, q - 1, attribute)
             p = closed(q) + 1
         } else {
@@ -201,15 +221,23 @@ function items(end, prefix,    attribute, public, what, q, name) {
 
 function unread(i) { fault(at(i), "an item that is not known here, at " tok[i]) }
 
-# use a::b::c; or use a::b::c as d;
-function use_line(i, j,    path, name) {
+# use a::b::c; use a::b::c as d; or use a::b::{c, d as e, self};
+function use_line(i, j,    path, n, leaf, k) {
     path = text(i, j, 0)
-    name = tok[j]
-    if (path !~ /^[A-Za-z0-9_:]+( as [A-Za-z0-9_]+)?$/) return 0
-    sub(/ as .*/, "", path)
+    if (path !~ /^[A-Za-z0-9_:]+(::[{][A-Za-z0-9_, ]+[}]| as [A-Za-z0-9_]+)?$/) return 0
     sub(/^crate::/, crate "::", path)
-    used[name] = path
+    if (path !~ /[{]/) { use_name(path); return 1 }
+    n = split(substr(path, index(path, "{") + 1, length(path) - index(path, "{") - 1), leaf, /, */)
+    sub(/::[{].*/, "", path)
+    for (k = 1; k <= n; k++)
+        if (squeezed(leaf[k]) != "") use_name(leaf[k] == "self" ? path : path "::" squeezed(leaf[k]))
     return 1
+}
+function use_name(path,    name) {
+    name = path
+    sub(/.*(::| as )/, "", name)
+    sub(/ as .*/, "", path)
+    used[name] = path
 }
 
 function keep(what, name, i, j, attribute) {
@@ -221,6 +249,12 @@ function keep(what, name, i, j, attribute) {
     kept_attribute[kept] = squeezed(attribute)
 }
 
+# a type that has to be in the table: not the kit's, and no type parameter
+function is_ours(t,    part) {
+    if (split(t, part, "::") > 1) return part[1] in ours
+    return t !~ /^(Option|Result|Vec|String|Box)$/ && !(t in generic)
+}
+
 # The tokens from i to j, with types in full or as they stand
 function text(i, j, full,    s, t) {
     for (; i <= j; i++) {
@@ -229,8 +263,10 @@ function text(i, j, full,    s, t) {
         if (full && tok[i + 1] != ":" && (tok[i + 1] == "::" || t in used || t in own || t ~ /^[A-Z]/)) {
             t = t == "crate" ? crate : t == "Self" ? module "::" self : t in used ? used[t] : t in own ? module "::" t : t
             for (; tok[i + 1] == "::"; i += 2) t = t "::" tok[i + 2]
-            typed[++types] = t
-            typed_in[types] = record
+            if (is_ours(t)) {
+                typed[++types] = t
+                typed_in[types] = record
+            }
         }
         s = s t
     }
@@ -275,12 +311,16 @@ function cases(i, j, what,    from, open, s) {
 
 function contract(i, j,    q, n, l) {
     split("", bound)
-    q = closed(i)
+    split("", generic)
+    q = after_generics(i)
+    for (l = i + 1; l < q; l++)
+        if (tok[l - 1] ~ /^[<,]$/) { bound[tok[l]]; generic[tok[l]] }
+    q = closed(q)
     for (l = i + 1; l < q; l++) {
         if (tok[l + 1] == ":") bound[tok[l]]
         if (tok[l] == "self") bound[tok[l]]
     }
-    while (q < j && tok[q + 1] !~ /^(requires|ensures|ghost)$/) q++
+    while (q < j && tok[q + 1] !~ CLAUSE) q++
     write("  " text(i, q, 1))
     split("", needs)
     for (q++; q < j; q += 2) {
@@ -299,10 +339,7 @@ function contract(i, j,    q, n, l) {
 # The words of a clause: numbers, what every clause is lent, parameters and bound names, and what the file brings
 function clause_words(s, place,    n, part, i, k, found, name, own_bound, b) {
     if (s ~ /--|[{]-/) fault(place, record ": a comment in a clause")
-    if (s ~ /[^ (){}.;,@"]\.[^ (){}.;,@"]/) fault(place, record ": a path in a clause")
-    gsub(/«|»/, " ", s)
-    # what follows a point is a field
-    gsub(/\.[^ (){}.;,@"]+/, " ", s)
+    gsub(/«|»/, "", s)
     b = s
     while (match(b, /λ[^.]*\./)) {
         n = split(substr(b, RSTART + 2, RLENGTH - 3), part, " ")
@@ -311,6 +348,19 @@ function clause_words(s, place,    n, part, i, k, found, name, own_bound, b) {
     }
     for (name in bound) own_bound[name]
     delete own_bound["_"]
+    b = s
+    while (match(b, /let [a-z][a-z0-9_]* =/)) {
+        own_bound[substr(b, RSTART + 4, RLENGTH - 6)]
+        b = substr(b, RSTART + RLENGTH)
+    }
+    # what follows a point is a field, of what is bound or of a term in brackets
+    while (match(s, /[^ (){}.;,@"]+\.[^ (){}.;,@"]+/)) {
+        name = substr(s, RSTART, RLENGTH)
+        sub(/\..*/, "", name)
+        if (!(name in own_bound) && name != "result") fault(place, record ": a path in a clause, of " name)
+        s = substr(s, 1, RSTART - 1 + length(name)) substr(s, RSTART + RLENGTH)
+    }
+    gsub(/\.[^ (){}.;,@"]+/, " ", s)
     for (k = 1; k <= words; k++)
         if (word[k] in own_bound) fault(place, record ": " word[k] " hides " word_of[k] "." word_is[k])
     gsub(/[(){}.;,@"]/, " ", s)
@@ -326,7 +376,7 @@ function clause_words(s, place,    n, part, i, k, found, name, own_bound, b) {
 
 # a name, or a part of an operator
 function is_word(name, w) {
-    return name == w || index(w, "_") && index("_" w "_", "_" name "_")
+    return name == w || index(w, "◌") && index("◌" w "◌", "◌" name "◌")
 }
 
 # the words that a file brings are used in its clauses, of private functions too
@@ -374,12 +424,18 @@ function finish() {
 }
 
 BEGIN {
-    HEADS = "^(Prim|mathlib|lib|native|package|Rattle.*)$"
-    # what every clause is lent, and what every file has of antt's prelude
-    n = split("⌜ ⌝ λ × → : _ now 𝓤 H A", part, " ")
+    HEADS = "^(Prim|mathlib|lib|native|package|denote|contract|Rattle.*)$"
+    CLAUSE = "^(requires|ensures)( .*:)?$|^ghost$"
+    # what every clause is lent, and what every file has of antt
+    n = split("λ × → ¬ : _ = let in record result", part, " ")
     while (n > 0) lent[part[n--]]
-    n = split("IsProp IsSet ⊥ absurd Dec yes no Discrete squash₁ Unit tt Id J Path refl rw simp search grw cc omega cap", part, " ")
+    n = split("⊥ Unit tt absurd suc Type rw simp search grind omega cc arith ground assumption", part, " ")
     while (n > 0) prelude[part[n--]]
+    for (n = 1; n < ARGC; n++)
+        if (ARGV[n] ~ /^crates\//) {
+            split(ARGV[n], part, "/")
+            ours[part[2]]
+        }
 }
 FILENAME ~ /\.antt$/ { spec_line($0); next }
 FNR == 1 {
@@ -399,6 +455,8 @@ END {
     finish()
     for (i = 1; i <= names; i++)
         if (named[i] in home || named[i] in prelude || named[i] in lent) fault(named_at[i], named[i] " is a word of the library")
+    for (name in clause_place)
+        if (split(homes[name], part, ", ") > 2) fault(clause_place[name], name " is brought from several modules: " substr(homes[name], 3))
     for (i = 1; i <= types; i++)
         if (!(typed[i] in in_table)) fault("contracts", typed_in[i] ": " typed[i] " is not in the table")
     for (i = 1; i <= needed; i++) {

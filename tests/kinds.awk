@@ -1,4 +1,4 @@
-# The rows of `kinds` and the numbers of `refusalCode`, for a test that holds a page to them. The test puts its own program after this one, and gives
+# The rows of `kinds` and the numbers of `refusal_code`, for a test that holds a page to them. The test puts its own program after this one, and gives
 # crates/model/specs/Kinds.antt and crates/model/specs/Answers.antt before its other files. It then has
 #   kind_count, and of each row i from 1 on kind_number[i], kind_fields[i] (how many), kind_call[i] and kind_codes[i]; kind_row[number], the row of a kind
 #   code_count, and code_of[name] of each refusal; codes[number], the kinds that test a code, or nothing
@@ -20,7 +20,7 @@ FILENAME ~ /model\/specs\/Kinds\.antt$/ && match($0, / kind [0-9]+ [0-9]+ [A-Z]/
         }
     next
 }
-FILENAME ~ /model\/specs\/Answers\.antt$/ && /^refusalCode Refusal\.[A-Za-z]+ = [0-9]+$/ {
+FILENAME ~ /model\/specs\/Answers\.antt$/ && /^refusal_code Refusal\.[A-Za-z]+ = [0-9]+$/ {
     sub(/^Refusal\./, "", $2)
     code_of[$2] = $4
     codes[$4] = codes[$4]
