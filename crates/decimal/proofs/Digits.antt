@@ -100,3 +100,39 @@ digits_before (suc k) n h =
 
 pub digits_bound : (n : ℕ) → n < 2 ^ 32 → length (digits n) ≤ 10
 digits_bound n h = digits_most 9 n (omega arith)
+
+-- the counts of digits that the writers meet
+pub count_one : (n : ℕ) → n < 10 → length (digits n) ≡ 1
+count_one n h = ap length (digits_one n (omega arith))
+
+pub count_two : (n : ℕ) → 10 ≤ n → n < 100 → length (digits n) ≡ 2
+count_two n low high = digits_count 1 n (omega arith) (omega arith)
+
+pub count_three : (n : ℕ) → 100 ≤ n → n < 1000 → length (digits n) ≡ 3
+count_three n low high = digits_count 2 n (omega arith) (omega arith)
+
+pub count_four : (n : ℕ) → 1000 ≤ n → n < 10000 → length (digits n) ≡ 4
+count_four n low high = digits_count 3 n (omega arith) (omega arith)
+
+pub count_five : (n : ℕ) → 10000 ≤ n → n < 100000 → length (digits n) ≡ 5
+count_five n low high = digits_count 4 n (omega arith) (omega arith)
+
+pub count_six : (n : ℕ) → 100000 ≤ n → n < 1000000 → length (digits n) ≡ 6
+count_six n low high = digits_count 5 n (omega arith) (omega arith)
+
+pub count_seven : (n : ℕ) → 1000000 ≤ n → n < 10000000 → length (digits n) ≡ 7
+count_seven n low high = digits_count 6 n (omega arith) (omega arith)
+
+pub count_eight : (n : ℕ) → 10000000 ≤ n → n < 100000000 → length (digits n) ≡ 8
+count_eight n low high = digits_count 7 n (omega arith) (omega arith)
+
+pub count_nine : (n : ℕ) → 100000000 ≤ n → n < 1000000000 → length (digits n) ≡ 9
+count_nine n low high = digits_count 8 n (omega arith) (omega arith)
+
+pub count_ten : (n : ℕ) → 1000000000 ≤ n → n < 10000000000 → length (digits n) ≡ 10
+count_ten n low high = digits_count 9 n (omega arith) (omega arith)
+
+pub count_more : (n : ℕ) → 10000000000 ≤ n → length (digits n) ≡ length (digits (n / 10000000000)) + 10
+count_more n h = digits_before 10 n (omega arith)
+
+pub ruleset digit_counts = (count_one, count_two, count_three, count_four, count_five, count_six, count_seven, count_eight, count_nine, count_ten, count_more)

@@ -9,6 +9,7 @@ ghost use Rattle.decimal.specs.Numbers.{NumberBounded};
 pub mod wide;
 
 // How many digits n has, at most ten.
+#[tactic(auto, using(crate::proofs::Digits::digit_counts))]
 pub fn digit_count(n: u32) -> usize
     ensures value { result ≡ length (digits n) }
     ensures upper_bound { result ≤ 10 }

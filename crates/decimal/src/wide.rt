@@ -11,6 +11,7 @@ const LARGEST: u64 = 4_294_967_295;
 const TEN_TO_TEN: u64 = 10_000_000_000;
 
 // How many digits n has, at most twenty.
+#[tactic(auto, using(crate::proofs::Digits::digit_counts))]
 pub fn digit_count(n: u64) -> usize
     ensures value { result ≡ length (digits n) }
     ensures upper_bound { result ≤ 20 }
