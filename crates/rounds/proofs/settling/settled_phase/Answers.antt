@@ -1,16 +1,11 @@
 -- `rounds::settling::settled_phase` meets its contract.
 use mathlib.Core.Path.{◌≡◌, sym, ◌∙◌}
-use borrow.Author.Rules.{rules}
 use borrow.Author.Tests.{eq-eqb, ne_eqb}
 use Rattle.ticket_set.specs.TicketSet.{count_of}
 use Rattle.model.specs.declared.state.Round.{Round}
 use Rattle.model.specs.declared.state.Phase.TheVariants.{Closed, Paying}
 use Rattle.model.specs.Calls.{settled_phase}
-use Rattle.rounds.proofs.settling.settled_phase.Statement.{statement}
-use Rattle.rounds.proofs.settling.settled_phase.Tie as tie
-
-count-requires : tie.Need-count-requires
-count-requires c κs = search rules
+use Rattle.rounds.proofs.settling.settled_phase.Goals as goal
 
 none-marked : (r : Round) → count_of r.tickets ≡ 0 → Closed ≡ settled_phase r
 none-marked r e = rw (eq-eqb _ _ e)
@@ -18,11 +13,8 @@ none-marked r e = rw (eq-eqb _ _ e)
 some_marked : (r : Round) → (count_of r.tickets ≡ 0 → ⊥) → Paying r ≡ settled_phase r
 some_marked r d = rw (ne_eqb _ _ d)
 
-returns : tie.Need-returns
-returns c = none-marked c.before.before.args.r (sym c.before.count.ensures ∙ c.if1.true)
+pub returns-then-count-eq0 : goal.returns-then-count-eq0
+returns-then-count-eq0 c = none-marked c.args.r (sym c.count.ensures ∙ c.if-count-eq0.true)
 
-returns-2 : tie.Need-returns-2
-returns-2 c = some_marked c.before.before.args.r (λ e. c.if1.false (c.before.count.ensures ∙ e))
-
-pub settled-phase-spec : {M : Type 1} → statement M
-settled-phase-spec = tie.close (tie.spec count-requires returns returns-2)
+pub returns : goal.returns
+returns c = some_marked c.args.r (λ e. c.if-count-eq0.false (c.count.ensures ∙ e))
