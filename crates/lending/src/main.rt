@@ -18,7 +18,6 @@ ghost use Rattle.replay.specs.Lines.{line_text, taken_of};
 
 use fields::read_fields;
 use lent::{place_orders_lent, step_lent, take_line_lent};
-use libc::{STDERR_FILENO, STDIN_FILENO, STDOUT_FILENO};
 use lines::answer::write_answer;
 use lines::call::{Reading, line_end, read_call};
 use model::answer::{Answer, Outcome};
@@ -26,12 +25,11 @@ use model::call::Call;
 use model::orders::{AnswerPlace, OrderFields};
 use model::state::{Exchange, fresh};
 use replay::line::{Answered, Taken};
+use std::io::{self, Write};
+use std::time::Clock;
 
 // The most bytes of a line before its byte 10.
 const LONGEST_LINE: usize = 80;
-
-// The most bytes of input.
-const LONGEST_INPUT: usize = 1_048_576;
 
 // One more than an order list may have.
 const MOST_PLACES: u32 = 65;
@@ -59,7 +57,7 @@ struct Host {
 #[derive(Clone, Copy)]
 struct Turn {
     host: Host,
-    written: bool,
+    written: io::Result<()>,
 }
 
 // How many places a line asks for, where it is a list call.
@@ -67,13 +65,6 @@ struct Turn {
 enum Asked {
     Places(u32),
     NoList,
-}
-
-// How many bytes were read, and whether a read failed.
-#[derive(Clone, Copy)]
-struct Input {
-    count: usize,
-    failed: bool,
 }
 
 // ---- the exchange lent: taken by value, lent and given back
@@ -132,38 +123,52 @@ fn answer_buffer() -> [u8; 35]
 }
 
 // An answer line. Answers whether it was written, as all that print do.
-fn print_answer(number: u32, answer: Answer) -> bool {
+fn print_answer<W: Write>(
+    clock: &impl Clock,
+    to: &mut W,
+    number: u32,
+    answer: Answer,
+) -> io::Result<()> {
     let mut out = answer_buffer();
     let used = write_answer(&mut out, number, answer);
-    stdio::write(STDOUT_FILENO, &out[..used]) == used
+    stdio::write_all(clock, to, &out[..used])
 }
 
 // The first m places, numbered from 0.
-fn print_places(places: [AnswerPlace; 65], m: usize) -> bool
+fn print_places<W: Write>(
+    clock: &impl Clock,
+    to: &mut W,
+    places: [AnswerPlace; 65],
+    m: usize,
+) -> io::Result<()>
     requires { m ≤ 65 }
 {
     let mut i: usize = 0;
     while i < m {
         let place = places[i];
         let answer = place.answer;
-        if !print_answer(i as u32, answer) {
-            return false;
-        }
+        print_answer(clock, to, i as u32, answer)?;
         i = i + 1;
     }
-    true
+    Ok(())
 }
 
 // What is answered to a line: its answer line as it was written into out; where it did not fit (21), one of its own.
-fn print_answered(number: u32, answered: Answered, out: &[u8]) -> bool
+fn print_answered<W: Write>(
+    clock: &impl Clock,
+    to: &mut W,
+    number: u32,
+    answered: Answered,
+    out: &[u8],
+) -> io::Result<()>
     requires { answered.used ≤ length out.now }
 {
     let answer = answered.answer;
     let used = answered.used;
     if used == 0 {
-        return print_answer(number, answer);
+        return print_answer(clock, to, number, answer);
     }
-    stdio::write(STDOUT_FILENO, &out[..used]) == used
+    stdio::write_all(clock, to, &out[..used])
 }
 
 // ---- one line
@@ -212,7 +217,13 @@ fn fresh_places() -> [AnswerPlace; 65] {
 }
 
 // A list call with the orders gathered. None is gathered after it.
-fn place_gathered(h: Host, number: u32, asked: u32) -> Turn
+fn place_gathered<W: Write>(
+    clock: &impl Clock,
+    to: &mut W,
+    h: Host,
+    number: u32,
+    asked: u32,
+) -> Turn
     requires reachable { Reachable h.exchange }
     requires count_bound { h.count ≤ 65 }
     ensures reachable_2 { Reachable result.host.exchange }
@@ -230,13 +241,14 @@ fn place_gathered(h: Host, number: u32, asked: u32) -> Turn
         count: 0,
         list,
     };
-    if !print_answer(number, answer) {
+    let printed = print_answer(clock, to, number, answer);
+    if printed.is_err() {
         return Turn {
             host,
-            written: false,
+            written: printed,
         };
     }
-    let written = print_places(places, m);
+    let written = print_places(clock, to, places, m);
     Turn { host, written }
 }
 
@@ -258,7 +270,7 @@ fn gather(h: Host, order: OrderFields) -> Host
 }
 
 // A call, without its line.
-fn make_call(h: Host, number: u32, c: Call) -> Turn
+fn make_call<W: Write>(clock: &impl Clock, to: &mut W, h: Host, number: u32, c: Call) -> Turn
     requires reachable { Reachable h.exchange }
     requires count_bound { h.count ≤ 65 }
     ensures reachable_2 { Reachable result.host.exchange }
@@ -274,7 +286,7 @@ fn make_call(h: Host, number: u32, c: Call) -> Turn
         count: h.count,
         list,
     };
-    let written = print_answer(number, answer);
+    let written = print_answer(clock, to, number, answer);
     Turn { host, written }
 }
 
@@ -289,7 +301,7 @@ fn room_of(number: u32) -> usize
 }
 
 // A line, whether it reads as a call or not.
-fn make_line(h: Host, number: u32, line: &[u8]) -> Turn
+fn make_line<W: Write>(clock: &impl Clock, to: &mut W, h: Host, number: u32, line: &[u8]) -> Turn
     requires reachable { Reachable h.exchange }
     requires count_bound { h.count ≤ 65 }
     ensures reachable_2 { Reachable result.host.exchange }
@@ -307,12 +319,19 @@ fn make_line(h: Host, number: u32, line: &[u8]) -> Turn
         count: h.count,
         list,
     };
-    let written = print_answered(number, answered, &out);
+    let written = print_answered(clock, to, number, answered, &out);
     Turn { host, written }
 }
 
 // A line that reads as a call: an order is gathered where fewer than 65 are.
-fn take_call(h: Host, number: u32, line: &[u8], c: Call) -> Turn
+fn take_call<W: Write>(
+    clock: &impl Clock,
+    to: &mut W,
+    h: Host,
+    number: u32,
+    line: &[u8],
+    c: Call,
+) -> Turn
     requires reachable { Reachable h.exchange }
     requires count_bound { h.count ≤ 65 }
     ensures reachable_2 { Reachable result.host.exchange }
@@ -339,31 +358,31 @@ fn take_call(h: Host, number: u32, line: &[u8], c: Call) -> Turn
             let host = gather(h, order);
             return Turn {
                 host,
-                written: true,
+                written: Ok(()),
             };
         }
     }
     if number % 2 == 0 {
-        return make_call(h, number, c);
+        return make_call(clock, to, h, number, c);
     }
-    make_line(h, number, line)
+    make_line(clock, to, h, number, line)
 }
 
 // A line, without its byte 10.
 // A line by the first of the four that applies.
-fn take_one(h: Host, number: u32, line: &[u8]) -> Turn
+fn take_one<W: Write>(clock: &impl Clock, to: &mut W, h: Host, number: u32, line: &[u8]) -> Turn
     requires reachable { Reachable h.exchange }
     requires count_bound { h.count ≤ 65 }
     ensures reachable_2 { Reachable result.host.exchange }
     ensures count_bound_2 { result.host.count ≤ 65 }
 {
     if let Asked::Places(asked) = places_asked(line) {
-        return place_gathered(h, number, asked);
+        return place_gathered(clock, to, h, number, asked);
     }
     let reading = read_call(line);
     match reading {
-        Reading::Read(c) => take_call(h, number, line, c),
-        Reading::NoCall => make_line(h, number, line),
+        Reading::Read(c) => take_call(clock, to, h, number, line, c),
+        Reading::NoCall => make_line(clock, to, h, number, line),
     }
 }
 
@@ -390,7 +409,7 @@ fn fresh_host() -> Host
 }
 
 // The lines of the input, numbered from 1.
-fn take_lines(input: &[u8]) -> bool
+fn take_lines<W: Write>(clock: &impl Clock, to: &mut W, input: &[u8]) -> io::Result<()>
     requires { length input.now ≤ 1048576 }
 {
     let mut h = fresh_host();
@@ -399,64 +418,28 @@ fn take_lines(input: &[u8]) -> bool
     while from < input.len() {
         let end = line_end(input, from);
         number = number + 1;
-        let turn = take_one(h, number, &input[from..end]);
-        if !turn.written {
-            return false;
-        }
+        let turn = take_one(clock, to, h, number, &input[from..end]);
+        turn.written?;
         let next = turn.host;
         h = next;
         from = end + 1;
     }
-    true
-}
-
-// Room for one byte more than the longest input.
-fn input_buffer() -> [u8; 1048577] {
-    [0; 1048577]
-}
-
-// Reads to the end of the input, or until the buffer is full.
-fn read_input(buf: &mut [u8]) -> Input
-    ensures { result.count ≤ length buf.old }
-{
-    let mut count: usize = 0;
-    while count < buf.len() {
-        let got = stdio::read(STDIN_FILENO, &mut buf[count..]);
-        if got < 0 {
-            return Input {
-                count,
-                failed: true,
-            };
-        }
-        let more = io::count(got, &buf[count..]);
-        if more == 0 {
-            break;
-        }
-        count = count + more;
-    }
-    Input {
-        count,
-        failed: false,
-    }
+    Ok(())
 }
 
 // A longer input, and a read or write that fails, are told on standard error and end the program.
-fn main() {
-    let mut buf = input_buffer();
-    let input = read_input(&mut buf);
-    if input.failed {
-        os::fail(b"lending: cannot read");
-        return;
-    }
-    let count = input.count;
-    if LONGEST_INPUT < count {
-        stdio::write(
-            STDERR_FILENO,
-            b"lending: the input has more than 1,048,576 bytes\n",
-        );
-        return;
-    }
-    if !take_lines(&buf[..count]) {
-        os::fail(b"lending: cannot write");
+fn main(rt: HostRuntime) {
+    let mut told = rt.stderr();
+    let mut buf = stdio::input_buffer();
+    let count = stdio::read_input(
+        &rt,
+        &mut rt.stdin(),
+        &mut told,
+        &mut buf,
+        b"lending: cannot read",
+        b"lending: the input has more than 1,048,576 bytes\n",
+    );
+    if let Err(e) = take_lines(&rt, &mut rt.stdout(), &buf[..count]) {
+        stdio::fail(&mut told, b"lending: cannot write", e);
     }
 }

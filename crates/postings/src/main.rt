@@ -33,7 +33,8 @@ use ledger::{
     Entry, Ledger, Posting, Row, RowPosting, balance, credit, credit_row, debit, debit_row,
     entry_amount, entry_code, fresh, row_of,
 };
-use libc::STDOUT_FILENO;
+use std::io::{self, Write};
+use std::time::Clock;
 use units::Amount;
 
 // The most bytes of a line before its byte 10.
@@ -201,10 +202,15 @@ fn write_posted(out: &mut [u8], number: u32, code: u32, amount: u32) -> usize
 }
 
 // Answers whether it was written.
-fn print_posted(number: u32, p: Posted) -> bool {
+fn print_posted<W: Write>(
+    clock: &impl Clock,
+    to: &mut W,
+    number: u32,
+    p: Posted,
+) -> io::Result<()> {
     let mut out = answer_buffer();
     let used = write_posted(&mut out, number, p.code, p.amount);
-    stdio::write(STDOUT_FILENO, &out[..used]) == used
+    stdio::write_all(clock, to, &out[..used])
 }
 
 // ---- the whole
@@ -220,7 +226,7 @@ fn goes_on(input: &[u8], at: usize) -> bool
 }
 
 // The lines of the input, numbered from 1. Answers whether all answers were written.
-fn post_lines(input: &[u8]) -> bool
+fn post_lines<W: Write>(clock: &impl Clock, to: &mut W, input: &[u8]) -> io::Result<()>
     requires { length input.now ≤ 1048576 }
 {
     let mut books = fresh_books();
@@ -234,26 +240,28 @@ fn post_lines(input: &[u8]) -> bool
         }
         let p = post_line(books, &input[from..i]);
         number = number + 1;
-        if !print_posted(number, p) {
-            return false;
-        }
+        print_posted(clock, to, number, p)?;
         let next = p.books;
         books = next;
         i = i + 1;
         from = i;
     }
-    true
+    Ok(())
 }
 
 // A longer input, and a read or write that fails, are told on standard error and end the program.
-fn main() {
+fn main(rt: HostRuntime) {
+    let mut told = rt.stderr();
     let mut buf = stdio::input_buffer();
     let count = stdio::read_input(
+        &rt,
+        &mut rt.stdin(),
+        &mut told,
         &mut buf,
         b"postings: cannot read",
         b"postings: the input has more than 1,048,576 bytes\n",
     );
-    if !post_lines(&buf[..count]) {
-        os::fail(b"postings: cannot write");
+    if let Err(e) = post_lines(&rt, &mut rt.stdout(), &buf[..count]) {
+        stdio::fail(&mut told, b"postings: cannot write", e);
     }
 }
