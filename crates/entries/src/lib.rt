@@ -82,6 +82,7 @@ pub fn refused(t: Ticket, market: Market, why: Refusal) -> Joined
 }
 
 // Enter of a resting ticket into a round that collects.
+#[tactic(auto, unfolding(parts::specs::Parts::enter_on))]
 fn join(t: Ticket, market: Market, ticket: u32, o: Order, r: Round) -> Joined
     requires { (ticket < 64)
         × (t.state ≡ Resting o)
@@ -111,6 +112,7 @@ fn join(t: Ticket, market: Market, ticket: u32, o: Order, r: Round) -> Joined
 }
 
 // 6 Enter.
+#[tactic(auto, unfolding(parts::specs::Parts::enter_on))]
 pub fn enter(t: Ticket, market: Market, ticket: u32) -> Joined
     requires { (ticket < 64) × EnterBounds t market }
     ensures { result ≡ enter_on t market ticket }

@@ -58,6 +58,7 @@ fn left_round(r: Round, ticket: u32, side: Side, offer: Amount) -> Round
 }
 
 // Leave of a ticket that is in a round, by its own member: only while the round collects.
+#[tactic(auto, unfolding(parts::specs::Parts::leave_on))]
 fn leave_entered(t: Ticket, market: Market, ticket: u32, o: Order) -> Joined
     requires { (ticket < 64) × (t.state ≡ Entered o) × LeaveBounds t market }
     ensures { result ≡ leave_on t market ticket o.member }
@@ -85,6 +86,7 @@ fn leave_entered(t: Ticket, market: Market, ticket: u32, o: Order) -> Joined
 }
 
 // 11 Leave.
+#[tactic(auto, unfolding(parts::specs::Parts::leave_on))]
 pub fn leave(t: Ticket, market: Market, ticket: u32, member: u32) -> Joined
     requires { (ticket < 64) × LeaveBounds t market }
     ensures { result ≡ leave_on t market ticket member }
