@@ -29,9 +29,7 @@ use Rattle.parts.proofs.OnParts.{market_place, set_market_place}
 use Rattle.parts.proofs.PartBounds.{ticket_places, pay_bounds}
 use Rattle.model.proofs.ReachBounds.{reachable_bounded}
 use Rattle.work.specs.declared.AccountAct.{AccountAct}
-use Rattle.work.specs.declared.AccountAct.TheVariants as AccountAct
 use Rattle.work.specs.declared.MarketAct.{MarketAct}
-use Rattle.work.specs.declared.MarketAct.TheVariants as MarketAct
 use Rattle.work.specs.declared.EntryAct.{EntryAct}
 use Rattle.work.specs.declared.Posted.{Posted}
 use Rattle.work.specs.declared.Work.TheVariants.{Account, Market, Entry, Claim}
