@@ -3,15 +3,22 @@ use Prim.Native.Nat.{ℕ}
 use mathlib.Core.Path.{◌≡◌, ap, ◌∙◌}
 use mathlib.Core.Bool.{◌||◌, not}
 use mathlib.Core.List.{[], ◌∷◌}
+use native.Mathlib.Omega.{arith}
 use lib.Dec.{eqb}
 use borrow.Author.Tests.{eq-eqb, ne_eqb}
 use Rattle.units.specs.Decide.{when, decide}
+use Rattle.ledger.specs.Postings.{credit_row_of}
+use Rattle.ledger.proofs.Laws.{credit_row_calls}
 use Rattle.ledger.specs.declared.Row.{Row}
 use Rattle.model.specs.declared.state.Order.{Order}
 use Rattle.model.specs.declared.state.Ticket.{Ticket}
 use Rattle.model.specs.declared.state.TicketState.{TicketState}
 use Rattle.model.specs.declared.state.TicketState.TheVariants.{Free, Resting, Entered}
+use Rattle.model.specs.declared.answer.Answer.TheVariants.{Accepted}
 use Rattle.model.specs.declared.answer.Refusal.TheVariants.{NoSuchOrder, WrongTicketState}
+use Rattle.model.specs.Sides.{offered}
+use Rattle.model.proofs.Frames.{offered_lt}
+use Rattle.parts.specs.Asked.{CancelBounds}
 use Rattle.parts.specs.declared.Placed.{Placed}
 use Rattle.model.specs.State.{order_in, is_free, is_entered}
 use Rattle.parts.specs.Parts.{refused_placed, cancelled_on, cancel_on}
@@ -44,3 +51,14 @@ module _ (row : Row) (t : Ticket) (m : ℕ) where
   pub cancel_resting_own : (o : Order) → t.state ≡ Resting o → o.member ≡ m → cancel_on row t m ≡ cancelled_on row o
   unfolding cancel_on cancel_as
   cancel_resting_own o e own = ap cancel_as e ∙ rw (eq-eqb o.member m own)
+
+  -- and what the ledger's call gives of it
+  pub cancel_credited : (o : Order) → CancelBounds row t → t.state ≡ Resting o → o.member ≡ m
+      → cancel_on row t m ≡ record { answer = Accepted o.offer.0 0; row = (credit_row_of row (offered o.side o.market) o.offer.0).row; ticket = record { state = Free } }
+  cancel_credited o fits e own =
+      let f = fits o e in
+      rw ((credit_row_calls row (offered o.side o.market) o.offer.0).done (omega (arith, offered_lt o.side o.market f.0)) f.1)
+      (cancel_resting_own o e own)
+
+-- for the proof of cancel
+pub ruleset by_state = (cancel_free, cancel_resting_other, cancel_entered_other, cancel_entered_own, cancel_credited)

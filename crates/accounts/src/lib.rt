@@ -114,6 +114,7 @@ pub fn order(row: Row, ticket: Ticket, o: Order) -> Placed
 }
 
 // 4 Cancel: a resting offer returned to its member's row.
+#[tactic(auto, using(crate::proofs::Laws::by_state))]
 pub fn cancel(row: Row, ticket: Ticket, member: u32) -> Placed
     requires { CancelBounds row ticket }
     ensures { result ≡ cancel_on row ticket member }
