@@ -8,7 +8,6 @@ use lib.ListN.{length, length-append}
 use Rattle.units.specs.Decimal.{digits}
 use Rattle.decimal.proofs.Digits.{digits_most, digits_bound}
 use Rattle.model.specs.declared.answer.Refusal.{Refusal}
-use Rattle.model.specs.declared.answer.Refusal.TheVariants as Refusal
 use Rattle.model.specs.declared.answer.Answer.{Answer}
 use Rattle.model.specs.declared.answer.Answer.TheVariants.{Accepted, Refused}
 use Rattle.lines.specs.AnswerText.{longest_answer, accepted_text, refused_text}

@@ -33,6 +33,7 @@ pub fn reading_code(r: Reading) -> u32
 }
 
 // The call with one field.
+#[tactic(auto, unfolding(crate::specs::CallLines::of_kind))]
 fn with_1(kind: u32, a: u32) -> Reading
     ensures { result ≡ call_of («kind» ∷ («a» ∷ [])) }
 {
@@ -46,6 +47,7 @@ fn with_1(kind: u32, a: u32) -> Reading
 }
 
 // The call with two fields.
+#[tactic(auto, unfolding(crate::specs::CallLines::of_kind))]
 fn with_2(kind: u32, a: u32, b: u32) -> Reading
     ensures { result ≡ call_of («kind» ∷ («a» ∷ («b» ∷ []))) }
 {
@@ -77,6 +79,7 @@ fn with_2(kind: u32, a: u32, b: u32) -> Reading
 }
 
 // The call with three fields.
+#[tactic(auto, unfolding(crate::specs::CallLines::of_kind))]
 fn with_3(kind: u32, a: u32, b: u32, c: u32) -> Reading
     ensures { result ≡ call_of («kind» ∷ («a» ∷ («b» ∷ («c» ∷ [])))) }
 {
@@ -98,6 +101,7 @@ fn with_3(kind: u32, a: u32, b: u32, c: u32) -> Reading
 }
 
 // The call with five fields.
+#[tactic(auto, unfolding(crate::specs::CallLines::of_kind))]
 fn with_5(kind: u32, a: u32, b: u32, c: u32, d: u32, e: u32) -> Reading
     ensures { result ≡ call_of («kind» ∷ («a» ∷ («b» ∷ («c» ∷ («d» ∷ («e» ∷ [])))))) }
 {
@@ -114,6 +118,7 @@ fn with_5(kind: u32, a: u32, b: u32, c: u32, d: u32, e: u32) -> Reading
 }
 
 // The call with six fields.
+#[tactic(auto, unfolding(crate::specs::CallLines::of_kind))]
 fn with_6(kind: u32, a: u32, b: u32, c: u32, d: u32, e: u32, f: u32) -> Reading
     ensures { result ≡ call_of («kind» ∷ («a» ∷ («b» ∷ («c» ∷ («d» ∷ («e» ∷ («f» ∷ []))))))) }
 {
@@ -164,6 +169,7 @@ pub fn call_of(f: Fields) -> Reading
 }
 
 // The place of the first byte 10 from a place on, or the end.
+#[tactic(auto, using(crate::proofs::CallLaws::end_here, crate::proofs::CallLaws::end_next, crate::proofs::CallLaws::end_past))]
 pub fn line_end(bytes: &[u8], from: usize) -> usize
     ensures { result ≡ from + length (line_in (drop from bytes.now)) }
 {
