@@ -22,6 +22,7 @@ pub struct CallNumbers {
 const MOST_FIELDS: usize = 7;
 
 // The numbers of a call, a row for each kind. None is above 4,294,967,295.
+#[tactic(auto, unfolding(crate::specs::Numbers::call_numbers))]
 pub fn numbers_of(call: Call) -> CallNumbers
     ensures value { result ≡ call_numbers call }
     ensures small { Small (numbers_of_call call) }
