@@ -12,10 +12,8 @@ use Rattle.lines.specs.declared.call.Reading.TheVariants.{Read, NoCall}
 use Rattle.lines.specs.CallLines.{call_of}
 use Rattle.lines.specs.CallText.{line_of_numbers, call_line}
 use Rattle.lines.proofs.RoundTrip.{no_read}
-use Rattle.call_writer.specs.declared.CallWritten.{CallWritten}
-use Rattle.call_writer.specs.declared.CallWritten.TheVariants.{Written, TooShort}
 use Rattle.call_writer.specs.declared.LinePut.{LinePut}
-use Rattle.call_writer.specs.Writing.{written_of, written_length, line_of_reading, told_of, put_of}
+use Rattle.call_writer.specs.Writing.{written_of, written_length, line_of_reading, put_of}
 use Rattle.call_writer.specs.Putting.{line_bytes, IsCall, PutTells, PutsTell, PutTellsAlone}
 use Rattle.call_writer.proofs.WritingLaws.{told_nothing, numbers_kept}
 
