@@ -4,11 +4,6 @@ use Rattle.model.specs.State.{is_auction}
 use Rattle.bids.proofs.Laws.{bid_elsewhere}
 use Rattle.bids.proofs.bid.Goals as goal
 
-pub bid_auction-requires : goal.bid_auction-requires
-bid_auction-requires c =
-    let e = c.in-Auction.is in
-    (e, c.requires _ e)
-
 pub returns-in-Closed : goal.returns-in-Closed
 returns-in-Closed c =
     let s = c.args in
@@ -20,9 +15,6 @@ returns-in-Collect c =
     let s = c.args in
     rw c.refused-in-Collect.ensures
     (sym (bid_elsewhere s.market s.row s.last s.number s.block.0 s.side s.n.0 s.bound.0 (ap is_auction c.in-Collect.is)))
-
-pub returns-in-Auction : goal.returns-in-Auction
-returns-in-Auction c = c.bid_auction.ensures
 
 pub returns-in-Paying : goal.returns-in-Paying
 returns-in-Paying c =

@@ -4,7 +4,6 @@ use mathlib.Core.Path.{◌≡◌, sym, ◌∙◌}
 use mathlib.Core.Bool.{false}
 use native.Mathlib.Omega.{arith}
 use lib.Dec.{ltb}
-use borrow.Author.Tests.{ltb-false}
 use Rattle.units.specs.Counts.{largest}
 use Rattle.model.specs.State.{totals_of}
 use Rattle.model.specs.Calls.{bid_quote, not_available, bound_missed, is_over}
@@ -19,29 +18,18 @@ returns-then-is_before c =
 
 pub returns-then-auction_over : goal.returns-then-auction_over
 returns-then-auction_over c =
-    let current : let s = c.args in ltb s.block.0 s.last.0 ≡ false = sym c.is_before.ensures ∙ c.if-is_before.false in
     let s = c.args in
+    let current : ltb s.block.0 s.last.0 ≡ false = sym c.is_before.ensures ∙ c.if-is_before.false in
     c.refused-then-auction_over.ensures
     ∙ sym (bid_over s.market s.row s.last s.number s.block.0 s.side s.n.0 s.bound.0 s.r c.requires.0 current (sym c.auction_over.ensures ∙ c.if-auction_over.true))
 
-pub quote_at-q-requires : goal.quote_at-q-requires
-quote_at-q-requires c =
-    let current : let s = c.args in ltb s.block.0 s.last.0 ≡ false = sym c.is_before.ensures ∙ c.if-is_before.false in
-    let running : let s = c.args in is_over s.r s.block.0 ≡ false = sym c.auction_over.ensures ∙ c.if-auction_over.false in
-    let s = c.args in
-    let b = c.requires.1 in
-    (b.round, omega (arith, b.started, ltb-false s.block.0 s.last.0 current), ltb-false _ _ running)
-
-pub not_available-requires : goal.not_available-requires
-not_available-requires c =
-    rw c.totals_of.ensures (c.requires.1.round.paid c.args.side)
-
 pub returns-then-not_available : goal.returns-then-not_available
 returns-then-not_available c =
-    let current : let s = c.args in ltb s.block.0 s.last.0 ≡ false = sym c.is_before.ensures ∙ c.if-is_before.false in
-    let running : let s = c.args in is_over s.r s.block.0 ≡ false = sym c.auction_over.ensures ∙ c.if-auction_over.false in
-    let unavailable : let s = c.args in c.not_available.result ≡ not_available s.side s.n.0 (bid_quote s.r s.side s.block.0 s.n.0) (totals_of s.r s.side) = rw (c.not_available.ensures, c.quote_at-q.ensures, c.totals_of.ensures) in
     let s = c.args in
+    let current : ltb s.block.0 s.last.0 ≡ false = sym c.is_before.ensures ∙ c.if-is_before.false in
+    let running : is_over s.r s.block.0 ≡ false = sym c.auction_over.ensures ∙ c.if-auction_over.false in
+    let unavailable : c.not_available.result ≡ not_available s.side s.n.0 (bid_quote s.r s.side s.block.0 s.n.0) (totals_of s.r s.side) =
+    rw (c.not_available.ensures, c.quote_at-q.ensures, c.totals_of.ensures) in
     c.refused-then-not_available.ensures
     ∙ sym (bid_unavailable s.market s.row s.last s.number s.block.0 s.side s.n.0 s.bound.0 s.r c.requires.0
     current
@@ -50,11 +38,13 @@ returns-then-not_available c =
 
 pub returns-then-bound_missed : goal.returns-then-bound_missed
 returns-then-bound_missed c =
-    let current : let s = c.args in ltb s.block.0 s.last.0 ≡ false = sym c.is_before.ensures ∙ c.if-is_before.false in
-    let running : let s = c.args in is_over s.r s.block.0 ≡ false = sym c.auction_over.ensures ∙ c.if-auction_over.false in
-    let unavailable : let s = c.args in c.not_available.result ≡ not_available s.side s.n.0 (bid_quote s.r s.side s.block.0 s.n.0) (totals_of s.r s.side) = rw (c.not_available.ensures, c.quote_at-q.ensures, c.totals_of.ensures) in
-    let missed : let s = c.args in c.bound_missed.result ≡ bound_missed s.side (bid_quote s.r s.side s.block.0 s.n.0) s.bound.0 = rw (c.bound_missed.ensures, c.quote_at-q.ensures) in
     let s = c.args in
+    let current : ltb s.block.0 s.last.0 ≡ false = sym c.is_before.ensures ∙ c.if-is_before.false in
+    let running : is_over s.r s.block.0 ≡ false = sym c.auction_over.ensures ∙ c.if-auction_over.false in
+    let unavailable : c.not_available.result ≡ not_available s.side s.n.0 (bid_quote s.r s.side s.block.0 s.n.0) (totals_of s.r s.side) =
+    rw (c.not_available.ensures, c.quote_at-q.ensures, c.totals_of.ensures) in
+    let missed : c.bound_missed.result ≡ bound_missed s.side (bid_quote s.r s.side s.block.0 s.n.0) s.bound.0 =
+    rw (c.bound_missed.ensures, c.quote_at-q.ensures) in
     c.refused-then-bound_missed.ensures
     ∙ sym (bid_missed s.market s.row s.last s.number s.block.0 s.side s.n.0 s.bound.0 s.r c.requires.0
     current
@@ -64,12 +54,15 @@ returns-then-bound_missed c =
 
 pub to_amount-requires : goal.to_amount-requires
 to_amount-requires c =
-    let unavailable : let s = c.args in c.not_available.result ≡ not_available s.side s.n.0 (bid_quote s.r s.side s.block.0 s.n.0) (totals_of s.r s.side) = rw (c.not_available.ensures, c.quote_at-q.ensures, c.totals_of.ensures) in
-    let available : let s = c.args in not_available s.side s.n.0 (bid_quote s.r s.side s.block.0 s.n.0) (totals_of s.r s.side) ≡ false = sym unavailable ∙ c.if-not_available.false in
-    let missed : let s = c.args in c.bound_missed.result ≡ bound_missed s.side (bid_quote s.r s.side s.block.0 s.n.0) s.bound.0 = rw (c.bound_missed.ensures, c.quote_at-q.ensures) in
-    let within : let s = c.args in bound_missed s.side (bid_quote s.r s.side s.block.0 s.n.0) s.bound.0 ≡ false = sym missed ∙ c.if-bound_missed.false in
-    let bounded : c.args.bound.0 ≤ largest = omega (arith, c.well_formed.1.1.1.1.1.1.1.0.1.1.0.1) in
     let s = c.args in
+    let unavailable : c.not_available.result ≡ not_available s.side s.n.0 (bid_quote s.r s.side s.block.0 s.n.0) (totals_of s.r s.side) =
+    rw (c.not_available.ensures, c.quote_at-q.ensures, c.totals_of.ensures) in
+    let available : not_available s.side s.n.0 (bid_quote s.r s.side s.block.0 s.n.0) (totals_of s.r s.side) ≡ false =
+    sym unavailable ∙ c.if-not_available.false in
+    let missed : c.bound_missed.result ≡ bound_missed s.side (bid_quote s.r s.side s.block.0 s.n.0) s.bound.0 =
+    rw (c.bound_missed.ensures, c.quote_at-q.ensures) in
+    let within : bound_missed s.side (bid_quote s.r s.side s.block.0 s.n.0) s.bound.0 ≡ false = sym missed ∙ c.if-bound_missed.false in
+    let bounded : c.args.bound.0 ≤ largest = omega arith in
     omega (
       arith,
       c.quote_at-q.ensures,
@@ -77,23 +70,19 @@ to_amount-requires c =
           (c.requires.1.round.total s.side) bounded available within,
     )
 
-pub trade-requires : goal.trade-requires
-trade-requires c =
-    let unavailable : let s = c.args in c.not_available.result ≡ not_available s.side s.n.0 (bid_quote s.r s.side s.block.0 s.n.0) (totals_of s.r s.side) = rw (c.not_available.ensures, c.quote_at-q.ensures, c.totals_of.ensures) in
-    let available : let s = c.args in not_available s.side s.n.0 (bid_quote s.r s.side s.block.0 s.n.0) (totals_of s.r s.side) ≡ false = sym unavailable ∙ c.if-not_available.false in
-    let quote : let s = c.args in c.to_amount.result.0 ≡ bid_quote s.r s.side s.block.0 s.n.0 = c.to_amount.ensures ∙ c.quote_at-q.ensures in
-    (c.requires.1, rw quote available)
-
 pub returns : goal.returns
 returns c =
-    let current : let s = c.args in ltb s.block.0 s.last.0 ≡ false = sym c.is_before.ensures ∙ c.if-is_before.false in
-    let running : let s = c.args in is_over s.r s.block.0 ≡ false = sym c.auction_over.ensures ∙ c.if-auction_over.false in
-    let unavailable : let s = c.args in c.not_available.result ≡ not_available s.side s.n.0 (bid_quote s.r s.side s.block.0 s.n.0) (totals_of s.r s.side) = rw (c.not_available.ensures, c.quote_at-q.ensures, c.totals_of.ensures) in
-    let available : let s = c.args in not_available s.side s.n.0 (bid_quote s.r s.side s.block.0 s.n.0) (totals_of s.r s.side) ≡ false = sym unavailable ∙ c.if-not_available.false in
-    let missed : let s = c.args in c.bound_missed.result ≡ bound_missed s.side (bid_quote s.r s.side s.block.0 s.n.0) s.bound.0 = rw (c.bound_missed.ensures, c.quote_at-q.ensures) in
-    let within : let s = c.args in bound_missed s.side (bid_quote s.r s.side s.block.0 s.n.0) s.bound.0 ≡ false = sym missed ∙ c.if-bound_missed.false in
-    let quote : let s = c.args in c.to_amount.result.0 ≡ bid_quote s.r s.side s.block.0 s.n.0 = c.to_amount.ensures ∙ c.quote_at-q.ensures in
     let s = c.args in
+    let current : ltb s.block.0 s.last.0 ≡ false = sym c.is_before.ensures ∙ c.if-is_before.false in
+    let running : is_over s.r s.block.0 ≡ false = sym c.auction_over.ensures ∙ c.if-auction_over.false in
+    let unavailable : c.not_available.result ≡ not_available s.side s.n.0 (bid_quote s.r s.side s.block.0 s.n.0) (totals_of s.r s.side) =
+    rw (c.not_available.ensures, c.quote_at-q.ensures, c.totals_of.ensures) in
+    let available : not_available s.side s.n.0 (bid_quote s.r s.side s.block.0 s.n.0) (totals_of s.r s.side) ≡ false =
+    sym unavailable ∙ c.if-not_available.false in
+    let missed : c.bound_missed.result ≡ bound_missed s.side (bid_quote s.r s.side s.block.0 s.n.0) s.bound.0 =
+    rw (c.bound_missed.ensures, c.quote_at-q.ensures) in
+    let within : bound_missed s.side (bid_quote s.r s.side s.block.0 s.n.0) s.bound.0 ≡ false = sym missed ∙ c.if-bound_missed.false in
+    let quote : c.to_amount.result.0 ≡ bid_quote s.r s.side s.block.0 s.n.0 = c.to_amount.ensures ∙ c.quote_at-q.ensures in
     rw (c.trade.ensures, quote)
     (sym (bid_trades s.market s.row s.last s.number s.block.0 s.side s.n.0 s.bound.0 s.r c.requires.0
     current

@@ -2,7 +2,6 @@
 use Prim.Native.Nat.{ℕ}
 use mathlib.Core.Path.{◌≡◌, sym, ap₂, ◌∙◌}
 use mathlib.Core.Bool.{false}
-use native.Mathlib.Omega.{arith}
 use lib.Dec.{ltb}
 use borrow.Author.Tests.{ltb-false}
 use Rattle.units.specs.Counts.{block}
@@ -13,31 +12,28 @@ use Rattle.model.specs.declared.state.Phase.TheVariants.{Auction}
 use Rattle.model.specs.declared.answer.Answer.TheVariants.{Accepted}
 use Rattle.parts.specs.declared.Traded.{Traded}
 use Rattle.model.specs.Sides.{offered, wanted, gives, takes}
-use Rattle.model.proofs.Frames.{wanted_lt}
-use Rattle.bids.proofs.Laws.{trade_short, trade_done, takes_fit, trade_fits}
+use Rattle.bids.proofs.Laws.{trade_short, trade_done, takes_fit}
 use Rattle.bids.proofs.trade.Goals as goal
 
 -- accepted at a block, with a round and a row
 traded : ℕ → ℕ → ℕ → Round → Row → Traded
 traded at n q r row = record { answer = Accepted n q; market = record { phase = Auction r }; row = row; last = block at }
 
-pub cell_of-balance-requires : goal.cell_of-balance-requires
-cell_of-balance-requires c =
-    omega (arith, c.wanted_token.ensures, wanted_lt c.args.side c.args.number c.requires.0.market)
-
 pub returns-then-below : goal.returns-then-below
 returns-then-below c =
-    let tested : let s = c.args in c.below.result ≡ ltb (cell_of s.row (wanted s.side s.number)) (gives s.side s.n.0 s.q.0) = rw (c.below.ensures, c.cell_of-balance.ensures, c.wanted_token.ensures, c.by_side-give.ensures) in
     let s = c.args in
+    let tested : c.below.result ≡ ltb (cell_of s.row (wanted s.side s.number)) (gives s.side s.n.0 s.q.0) =
+    rw (c.below.ensures, c.cell_of-balance.ensures, c.wanted_token.ensures, c.by_side-give.ensures) in
     c.refused.ensures
     ∙ sym (trade_short s.market s.row s.last s.number s.block.0 s.side s.n.0 s.q.0 s.r
     (sym tested ∙ c.if-below.true))
 
 pub traded_row-paid-requires : goal.traded_row-paid-requires
 traded_row-paid-requires c =
-    let tested : let s = c.args in c.below.result ≡ ltb (cell_of s.row (wanted s.side s.number)) (gives s.side s.n.0 s.q.0) = rw (c.below.ensures, c.cell_of-balance.ensures, c.wanted_token.ensures, c.by_side-give.ensures) in
-    let covered : let s = c.args in ltb (cell_of s.row (wanted s.side s.number)) (gives s.side s.n.0 s.q.0) ≡ false = sym tested ∙ c.if-below.false in
     let s = c.args in
+    let tested : c.below.result ≡ ltb (cell_of s.row (wanted s.side s.number)) (gives s.side s.n.0 s.q.0) =
+    rw (c.below.ensures, c.cell_of-balance.ensures, c.wanted_token.ensures, c.by_side-give.ensures) in
+    let covered : ltb (cell_of s.row (wanted s.side s.number)) (gives s.side s.n.0 s.q.0) ≡ false = sym tested ∙ c.if-below.false in
     let b = c.requires.0 in
     rw (c.by_side-give.ensures, c.by_side-take.ensures) (
       b.market,
@@ -46,20 +42,15 @@ traded_row-paid-requires c =
       takes_fit s.r s.row s.last s.number b s.side s.n.0 s.q.0 c.requires.1,
     )
 
-pub traded_round-round-requires : goal.traded_round-round-requires
-traded_round-round-requires c =
-    let tested : let s = c.args in c.below.result ≡ ltb (cell_of s.row (wanted s.side s.number)) (gives s.side s.n.0 s.q.0) = rw (c.below.ensures, c.cell_of-balance.ensures, c.wanted_token.ensures, c.by_side-give.ensures) in
-    let covered : let s = c.args in ltb (cell_of s.row (wanted s.side s.number)) (gives s.side s.n.0 s.q.0) ≡ false = sym tested ∙ c.if-below.false in
-    let s = c.args in
-    trade_fits s.r s.row s.last s.number c.requires.0 s.side s.n.0 s.q.0 c.requires.1 (ltb-false _ _ covered)
-
 pub returns : goal.returns
 unfolding traded
 returns c =
-    let tested : let s = c.args in c.below.result ≡ ltb (cell_of s.row (wanted s.side s.number)) (gives s.side s.n.0 s.q.0) = rw (c.below.ensures, c.cell_of-balance.ensures, c.wanted_token.ensures, c.by_side-give.ensures) in
-    let covered : let s = c.args in ltb (cell_of s.row (wanted s.side s.number)) (gives s.side s.n.0 s.q.0) ≡ false = sym tested ∙ c.if-below.false in
-    let paid : let s = c.args in c.traded_row-paid.result ≡ credited_row (debited_row s.row (wanted s.side s.number) (gives s.side s.n.0 s.q.0)) (offered s.side s.number) (takes s.side s.n.0 s.q.0) = rw (c.traded_row-paid.ensures, c.by_side-give.ensures, c.by_side-take.ensures) in
     let s = c.args in
+    let tested : c.below.result ≡ ltb (cell_of s.row (wanted s.side s.number)) (gives s.side s.n.0 s.q.0) =
+    rw (c.below.ensures, c.cell_of-balance.ensures, c.wanted_token.ensures, c.by_side-give.ensures) in
+    let covered : ltb (cell_of s.row (wanted s.side s.number)) (gives s.side s.n.0 s.q.0) ≡ false = sym tested ∙ c.if-below.false in
+    let paid : c.traded_row-paid.result ≡ credited_row (debited_row s.row (wanted s.side s.number) (gives s.side s.n.0 s.q.0)) (offered s.side s.number) (takes s.side s.n.0 s.q.0) =
+    rw (c.traded_row-paid.ensures, c.by_side-give.ensures, c.by_side-take.ensures) in
     ap₂ (traded s.block.0 s.n.0 s.q.0) c.traded_round-round.ensures
     paid
     ∙ sym (trade_done s.market s.row s.last s.number s.block.0 s.side s.n.0 s.q.0 s.r covered)
