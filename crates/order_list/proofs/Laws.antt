@@ -1,7 +1,7 @@
 -- What the loop of `place_orders` leaves after i turns is what the definitions say of the first i orders; and where all are made, or none, it is what they say of the
 -- call.
 use mathlib.Core.Path.{◌≡◌, refl, sym, ◌∙◌, ap, subst}
-use Prim.Native.Nat.{ℕ, zero, suc, ◌≤◌}
+use Prim.Native.Nat.{ℕ, zero, suc, ◌+◌, ◌≤◌}
 use native.Mathlib.Omega.{arith}
 use mathlib.Core.Bool.{Bool, cond}
 use mathlib.Core.List.{List, [], ◌∷◌, ◌++◌, append_assoc, append-nil}
@@ -16,8 +16,17 @@ use Rattle.model.specs.declared.orders.AnswerPlace.{AnswerPlace}
 use Rattle.model.specs.Run.{after_calls, answers_to_calls}
 use Rattle.model.specs.OrderLists.{Listed, list_done, list_refused, orders_of}
 use Rattle.model.proofs.OrderLists.{all_answered, done_answers, done_state, tested}
+use Rattle.std.proofs.Common.{add-one}
+use Rattle.order_list.specs.declared.PlacedOne.{PlacedOne}
 use Rattle.order_list.specs.Walk.{list_answer, orders_made, placed_one}
 use Rattle.order_list.proofs.Turns.{state}
+
+-- what a place beyond the ends of the two lists is read as
+abbrev pub no_order : OrderFields
+no_order = record { ticket = 0; member = 0; market = 0; side = 0; limit = 0; amount = 0 }
+
+abbrev pub no_place : AnswerPlace
+no_place = record { answer = Accepted 0 0 }
 
 abbrev pub after : Exchange → OrderFields → Exchange
 after x f = (placed_one x f).exchange
@@ -72,6 +81,11 @@ module _ (x : Exchange) (fs : List OrderFields) (d : OrderFields) (ys : List Ans
 
       made : List AnswerPlace
       made = (list_done x (take i fs)).answers
+
+  -- one more turn, on what i turns have left
+  pub turned : (i : ℕ) (h : Exchange) (zs : List AnswerPlace) (p : PlacedOne) → p ≡ placed_one h (get_or fs i d) → h ≡ (st i).0 → zs ≡ (st i).1
+      → (p.exchange ≡ (st (i + 1)).0) × (set zs i p.place ≡ (st (i + 1)).1)
+  turned i h zs p made state_is answers_are = rw (made, state_is, answers_are, add-one i) (refl, refl)
 
   -- ---- after all of them
 

@@ -34,6 +34,7 @@ fn place_one(x: Exchange, f: OrderFields) -> PlacedOne
 }
 
 // The call's own answer, by the lengths of the two lists.
+#[tactic(auto, unfolding(crate::specs::Walk::list_answer))]
 fn list_answer(orders: usize, places: usize) -> Answer
     ensures { result ≡ list_answer orders places }
 {
