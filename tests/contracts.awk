@@ -169,7 +169,8 @@ function items(end, prefix,    attribute, public, what, q, name) {
     while (p <= end) {
         for (attribute = ""; tok[p] == "#"; p = q + 1) {
             q = closed(p + 1)
-            if (tok[p + 1] != "!") attribute = attribute " " text(p, q, 0)
+            # of the crate, or of the proof alone
+            if (tok[p + 1] != "!" && tok[p + 2] !~ /^(tactic|cycle)$/) attribute = attribute " " text(p, q, 0)
         }
         if (p > end) return
         public = tok[p] == "pub"
