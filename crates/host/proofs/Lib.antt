@@ -1,3 +1,0 @@
-pub mod Lendings
-pub mod Lends
-pub mod ServeWalk

@@ -1,4 +1,0 @@
-pub mod LineWalk
-pub mod ListWalk
-pub mod StepWalk
-pub mod Values
