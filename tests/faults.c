@@ -162,18 +162,25 @@ ssize_t write(int fd, const void *buf, size_t count)
     return n <= 0 ? n : answered(&writes, syscall(SYS_write, fd, buf, (size_t)n));
 }
 
-/* A wait of a millisecond is counted apart from any other. */
+/* A wait of a millisecond is counted apart from any other. What goes on with a wait that a signal cut short is no wait of its own. */
 int nanosleep(const struct timespec *asked, struct timespec *left)
 {
-    if (asked->tv_sec == 0 && asked->tv_nsec == 1000000)
+    static int cut;
+    int status = 0;
+
+    if (cut)
+        cut = 0;
+    else if (asked->tv_sec == 0 && asked->tv_nsec == 1000000)
         waits++;
     else
         other_waits++;
-    if (!getenv("FAULTS"))
-        return (int)syscall(SYS_nanosleep, asked, left);
-    if (drawn() % 2) {
+    if (!getenv("FAULTS")) {
+        status = (int)syscall(SYS_nanosleep, asked, left);
+    } else if (drawn() % 2) {
         *left = *asked;
-        return (int)failed(EINTR);
+        status = (int)failed(EINTR);
     }
-    return 0;
+    if (status < 0 && errno == EINTR)
+        cut = 1;
+    return status;
 }
