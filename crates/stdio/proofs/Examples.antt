@@ -7,11 +7,15 @@ use mathlib.Core.Logic.{◌⊎◌, inl, inr}
 use native.Mathlib.Omega.{arith}
 use lib.IntN.{ℤ, pos, negsuc}
 use Rattle.stdio.specs.Passing.{passes, TwoPass}
-use Rattle.stdio.specs.Examples.{errors, PassingUsed}
+use Rattle.stdio.specs.Examples.{errors, numbers, PassingUsed}
 
 pub errors_hold : map (λ (e : Bool × Bool). e.0) errors ≡ map (λ (e : Bool × Bool). e.1) errors
 unfolding errors
 errors_hold = refl
+
+pub numbers_hold : map (λ (e : ℤ × ℤ). e.0) numbers ≡ map (λ (e : ℤ × ℤ). e.1) numbers
+unfolding numbers
+numbers_hold = refl
 
 -- the number of an error, 0 for those below it
 abbrev size : ℤ → ℕ

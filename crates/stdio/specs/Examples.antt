@@ -1,6 +1,7 @@
 -- Errors of a read or write, by number, and what is said of all of them.
-use Rattle.std.specs.Prelude.{ℕ, ◌<◌, ◌≡◌, Bool, true, false, List, [], ◌∷◌, ℤ, pos, negsuc}
-use Rattle.stdio.specs.Passing.{passes, TwoPass}
+use Rattle.std.specs.Prelude.{ℕ, ◌<◌, ◌≡◌, Bool, true, false, List, [], ◌∷◌, ℤ, pos, negsuc, None, Some}
+use Rattle.std.specs.declared.io.ErrorKind.TheVariants.{BrokenPipe, Interrupted, NotFound, Other, StorageFull, TimedOut, Uncategorized, WouldBlock, WriteZero}
+use Rattle.stdio.specs.Passing.{passes, number_in, TwoPass}
 
 -- an error, and whether it passes
 unfoldable pub errors : List (Bool × Bool)
@@ -38,6 +39,25 @@ errors =
     ∷ (passes (negsuc 10), false)
     ∷ (passes (negsuc 11), false)
     ∷ (passes (negsuc 2147483647), false)
+    ∷ []
+
+-- the number of an error: the system's, whatever its kind, or that of its kind
+unfoldable pub numbers : List (ℤ × ℤ)
+numbers =
+    (number_in (Some (pos 5)) Interrupted, pos 5)
+    ∷ (number_in (Some (pos 4)) WouldBlock, pos 4)
+    ∷ (number_in (Some (pos 11)) Uncategorized, pos 11)
+    ∷ (number_in (Some (pos 0)) Interrupted, pos 0)
+    ∷ (number_in (Some (negsuc 0)) WouldBlock, negsuc 0)
+    ∷ (number_in None Interrupted, pos 4)
+    ∷ (number_in None WouldBlock, pos 11)
+    ∷ (number_in None NotFound, pos 0)
+    ∷ (number_in None BrokenPipe, pos 0)
+    ∷ (number_in None TimedOut, pos 0)
+    ∷ (number_in None WriteZero, pos 0)
+    ∷ (number_in None StorageFull, pos 0)
+    ∷ (number_in None Other, pos 0)
+    ∷ (number_in None Uncategorized, pos 0)
     ∷ []
 
 -- the law used: below 4, between the two, above 11 and below 0 nothing passes
