@@ -1,3 +1,4 @@
 pub mod Text
+pub mod OneLine
 pub mod Ended
 pub mod Examples
