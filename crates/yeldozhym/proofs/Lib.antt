@@ -1,3 +1,4 @@
 pub mod Lengths
 pub mod DayLaws
+pub mod Turns
 pub mod Examples
