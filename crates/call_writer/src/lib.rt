@@ -138,11 +138,13 @@ pub fn put_call_of_fields(kind: u32, fields: &[u32], out: &mut [u8], at: usize) 
     }
 }
 
-// Its length alone: 0 where the line does not fit, or where the numbers are no call's.
+// The same, told by the length alone; where the line does not fit, or the numbers are no call's (20), 0, and out is unchanged.
 pub fn write_call_of_fields(kind: u32, fields: &[u32], out: &mut [u8], at: usize) -> usize
     ensures value { result ≡ written_length (written_of (length out.old) at (line_of_reading (call_of («kind» ∷ fields.now)))) }
     ensures out_after { out.new ≡ put_from out.old at (line_of_reading (call_of («kind» ∷ fields.now))) }
 {
-    let put = put_call_of_fields(kind, fields, out, at);
-    put.length
+    match call_of_fields(kind, fields) {
+        Reading::Read(call) => written_length(write_call(out, at, call)),
+        Reading::NoCall => 0,
+    }
 }

@@ -1,4 +1,4 @@
--- The statements of demand 1 used.
+-- The statements of when a call is refused and what it moves, used.
 use Prim.Native.Nat.{ℕ, suc, ◌+◌, ◌*◌, ◌<◌, ◌≤◌}
 use mathlib.Core.List.{List}
 use mathlib.Core.Logic.{inl, inr, ⊎_elim}

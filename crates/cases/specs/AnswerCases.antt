@@ -1,4 +1,4 @@
--- The statements of demand 1 used: at any call, any state and any numbers; and, kind by kind, what an accepted call then says in plain numbers.
+-- The statements of when a call is refused and what it moves, used: at any call, any state and any numbers; and, kind by kind, what an accepted call then says in plain numbers.
 use Rattle.std.specs.Prelude.{ℕ, ◌+◌, ◌*◌, ◌<◌, ◌≤◌, ◌≡◌, List, [], ◌∷◌, length}
 use Rattle.units.specs.Rounding.{RoundedDown, RoundedUp}
 use Rattle.ticket_set.specs.TicketSet.{bit}

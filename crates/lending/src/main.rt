@@ -122,7 +122,7 @@ fn answer_buffer() -> [u8; 35]
     [0; 35]
 }
 
-// An answer line. Answers whether it was written, as all that print do.
+// An answer line. An error of the write is the caller's, as with all that print.
 fn print_answer<W: Write>(
     clock: &impl Clock,
     to: &mut W,

@@ -1,8 +1,19 @@
--- `call_writer::write_call_of_fields` meets its contract: the length that is told beside the code.
-use mathlib.Core.Path.{ap, ◌∙◌}
-use Rattle.call_writer.specs.declared.LinePut.{LinePut}
-use Rattle.call_writer.proofs.Putting.{put_bytes}
+-- `call_writer::write_call_of_fields` meets its contract: the line of the call that the numbers are, or nothing.
+use mathlib.Core.Path.{sym, ap, ◌∙◌}
+use lib.ListN.{length}
+use Rattle.decimal.specs.Buffer.{put_from}
+use Rattle.decimal.proofs.Put.{from_nothing}
+use Rattle.lines.specs.declared.call.Reading.{Reading}
+use Rattle.call_writer.specs.Writing.{line_of_reading, written_length, written_of}
+use Rattle.call_writer.proofs.WritingLaws.{told_nothing}
 use Rattle.call_writer.proofs.write_call_of_fields.Goals as goal
 
-pub returns-clause-value : goal.returns-clause-value
-returns-clause-value c = ap (λ (told : LinePut). told.length) c.put_call_of_fields-put.ensures.value ∙ put_bytes _ _ _
+pub returns-in-NoCall-clause-value : goal.returns-in-NoCall-clause-value
+returns-in-NoCall-clause-value c =
+    told_nothing (length c.args.out.now) c.args.at
+    ∙ ap (λ (r : Reading). written_length (written_of (length c.args.out.now) c.args.at (line_of_reading r))) (sym (sym c.call_of_fields.ensures ∙ c.in-NoCall.is))
+
+pub returns-in-NoCall-clause-out_after : goal.returns-in-NoCall-clause-out_after
+returns-in-NoCall-clause-out_after c =
+    sym (from_nothing c.args.out.now c.args.at)
+    ∙ ap (λ (r : Reading). put_from c.args.out.now c.args.at (line_of_reading r)) (sym (sym c.call_of_fields.ensures ∙ c.in-NoCall.is))
