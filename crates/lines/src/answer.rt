@@ -3,7 +3,7 @@ ghost use Rattle.std.specs.Prelude.{◌≡◌, ◌+◌, ◌≤◌, leb, length};
 ghost use Rattle.decimal.specs.Buffer.{put_at, put_into, put_count};
 ghost use Rattle.model.specs.Answers.{answer_line};
 ghost use Rattle.lines.specs.AnswerText.{longest_answer, accepted_text, refused_text};
-ghost use Rattle.lines.specs.AnswerText.{header as header_text};
+ghost use Rattle.lines.specs.AnswerText.{header};
 
 use decimal::{digit_count, write_field};
 use model::answer;
@@ -73,7 +73,7 @@ pub fn write_answer(out: &mut [u8], number: u32, a: Answer) -> usize
 
 // The line before the first answer.
 pub fn header() -> [u8; 23]
-    ensures { result ≡ header_text }
+    ensures { result ≡ header }
 {
     [
         b'l', b'i', b'n', b'e', b',', b'c', b'o', b'd', b'e', b',', b'f', b'i', b'r', b's', b't',

@@ -3,7 +3,7 @@
 
 ghost use Rattle.std.specs.Prelude.{◌≡◌, ◌∷◌, ◌≤◌, length};
 ghost use Rattle.decimal.specs.Buffer.{put_at, put_into, put_from};
-ghost use Rattle.lines.specs.AnswerText.{header as header_text};
+ghost use Rattle.lines.specs.AnswerText.{header};
 ghost use Rattle.lines.specs.CallLines.{call_of};
 ghost use Rattle.call_writer.specs.Writing.{written_of, written_length, line_of_reading, put_of};
 ghost use Rattle.replay.specs.Days.{day_of};
@@ -107,8 +107,8 @@ fn write_day(input: &[u8], out: &mut [u8])
 
 // Writes the header at the start of out. It asks for the room.
 fn write_header(out: &mut [u8])
-    requires { length header_text ≤ length out.old }
-    ensures { out.new ≡ put_at out.old 0 header_text }
+    requires { length header ≤ length out.old }
+    ensures { out.new ≡ put_at out.old 0 header }
 {
     let first = header();
     put_text(out, &first);
