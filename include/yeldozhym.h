@@ -27,7 +27,7 @@ extern "C" {
 #define YELDOZHYM_LONGEST_CALL 68UL
 
 /*
- * The stack that a call of any of these functions may take below the frame that makes it, in bytes. tests/library measures about 24 KB at
+ * The stack that a call of any of these functions may take below the frame that makes it, in bytes. tests/library measures about 27 KB at
  * most and fails above this figure; the rest is room for other C libraries and processors. No contract can say what a call takes. The measure
  * has in it what memcpy and its like take, and the dynamic linker where it binds them at their first call.
  *
