@@ -173,7 +173,7 @@ fn has_argument(rt: &impl Env) -> bool {
 
 // Says why a write failed.
 fn cannot_write<W: Write>(told: &mut W, error: Error) {
-    stdio::fail(told, b"day: cannot write", error);
+    let _ = stdio::fail(told, b"day: cannot write", error);
 }
 
 // Arguments, and a read or write that fails, are told on standard error and end the program. The cause may be lost where standard error does not
@@ -197,7 +197,9 @@ fn main(rt: HostRuntime) {
         End::Finished => {
             return;
         }
-        End::CannotRead(e) => stdio::fail(&mut told, b"day: cannot read", e),
+        End::CannotRead(e) => {
+            let _ = stdio::fail(&mut told, b"day: cannot read", e);
+        }
         End::CannotWrite(e) => cannot_write(&mut told, e),
     }
     stdio::write(&rt, &mut told, b"day: the answers are not whole\n");

@@ -440,6 +440,6 @@ fn main(rt: HostRuntime) {
         b"lending: the input has more than 1,048,576 bytes\n",
     );
     if let Err(e) = take_lines(&rt, &mut rt.stdout(), &buf[..count]) {
-        stdio::fail(&mut told, b"lending: cannot write", e);
+        let _ = stdio::fail(&mut told, b"lending: cannot write", e);
     }
 }

@@ -108,6 +108,6 @@ fn try_all<W: Write>(clock: &impl Clock, to: &mut W, line: &mut [u8]) -> io::Res
 fn main(rt: HostRuntime) {
     let mut line = [0; 33];
     if let Err(e) = try_all(&rt, &mut rt.stdout(), &mut line) {
-        stdio::fail(&mut rt.stderr(), b"numbers: cannot write", e);
+        let _ = stdio::fail(&mut rt.stderr(), b"numbers: cannot write", e);
     }
 }

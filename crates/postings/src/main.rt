@@ -262,6 +262,6 @@ fn main(rt: HostRuntime) {
         b"postings: the input has more than 1,048,576 bytes\n",
     );
     if let Err(e) = post_lines(&rt, &mut rt.stdout(), &buf[..count]) {
-        stdio::fail(&mut told, b"postings: cannot write", e);
+        let _ = stdio::fail(&mut told, b"postings: cannot write", e);
     }
 }

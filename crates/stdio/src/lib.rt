@@ -5,6 +5,7 @@
 
 ghost use Rattle.std.specs.Prelude.{◌≡◌, ◌<◌, ◌≤◌, ◌-◌, length, replicate, take, false, IfOk, IfErr, IfNone, IfSome, OnOk};
 ghost use Rattle.std.specs.Io.KnownBytes.{Appends, Consumes, IsAtEnd, ReadConsumes, WriteAppends};
+ghost use Rattle.stdio.specs.Failing.{TellsFailure};
 ghost use Rattle.stdio.specs.Passing.{passes, number_of};
 
 use std::io::{self, Cursor, Error, ErrorKind, Read, Write};
@@ -222,8 +223,10 @@ fn unnumbered_length(text: &[u8]) -> usize
     }
 }
 
-// Writes a line: what failed, as the caller names it, a colon and the error's text. What is not taken at once is lost.
-pub fn fail<W: Write>(to: &mut W, what: &[u8], error: Error) {
+// Writes a line: what failed, as the caller names it, a colon and the error's text. What is not taken at once is lost, and the answer is then why.
+pub fn fail<W: Write>(to: &mut W, what: &[u8], error: Error) -> io::Result<()>
+    ensures { OnOk result (TellsFailure (W.contents to.old) (W.contents to.new) what.now) }
+{
     let mut room = Cursor::new([0u8; 256]);
     let _ = write!(room, "{error}");
     let room = room.into_inner();
@@ -231,10 +234,14 @@ pub fn fail<W: Write>(to: &mut W, what: &[u8], error: Error) {
     if error.raw_os_error().is_some() {
         length = unnumbered_length(&room[..length]);
     }
-    let _ = to.write_all(what);
-    let _ = to.write_all(b": ");
-    let _ = to.write_all(&room[..length]);
-    let _ = to.write_all(b"\n");
+    let named = to.write_all(what);
+    let parted = to.write_all(b": ");
+    let told = to.write_all(&room[..length]);
+    let ended = to.write_all(b"\n");
+    named?;
+    parted?;
+    told?;
+    ended
 }
 
 // Reads the whole of an input, which has to be shorter than the buffer, and answers its length. Where a read fails, or the input is too long, it says so
@@ -252,7 +259,8 @@ pub fn read_input<R: Read, W: Write>(
 {
     let input = read_to_end(clock, from, buf);
     if let Some(e) = input.error {
-        fail(told, cannot_read, e);
+        // nothing is left to tell a second failure to
+        let _ = fail(told, cannot_read, e);
         return 0;
     }
     if input.count == buf.len() {
