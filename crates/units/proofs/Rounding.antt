@@ -1,6 +1,6 @@
 -- `down` and `up` round as their meanings say, and no other number does; what each gives in products.
 use mathlib.Core.Path.{◌≡◌, sym, ◌∙◌}
-use Prim.Native.Nat.{ℕ, ◌+◌, ◌-◌, ◌*◌, ◌^◌, ◌≤◌, ◌<◌}
+use Prim.Native.Nat.{ℕ, zero, suc, ◌+◌, ◌-◌, ◌*◌, ◌/◌, ◌%◌, ◌^◌, ◌≤◌, ◌<◌, min}
 use native.Mathlib.Nat.{div-add-mod, mod-lt, lt_of_mul-lt-mul_left, mul-le-mul_left, mul-le-mul, le_antisymm}
 use native.Mathlib.Omega.{arith}
 use Rattle.units.specs.Rounding.{DownAlone, down, up, RoundedDown, RoundedUp, RoundsDown, RoundsUp, UpAlone}
@@ -89,3 +89,11 @@ up_only_by a b c l g =
     let h : 0 < b = omega arith in
     let s : c < up a b + 1 = lt_of_mul-lt-mul_left b (omega (arith, up_low a b h)) in
     le_antisymm (omega arith) (up_le a b c h l)
+
+-- the quotient, with 1 more where a remainder is left
+pub ceil_is : (a b : ℕ) → 0 < b → a / b + min 1 (a % b) ≡ up a b
+ceil_is a b h = go (a % b) (mod-lt a h) (div-add-mod a b)
+  where
+    go : (r : ℕ) → r < b → b * (a / b) + r ≡ a → a / b + min 1 r ≡ up a b
+    go zero l e = let m : min 1 0 ≡ 0 = omega arith in rw m (up_only_by a b _ (omega arith) (omega arith))
+    go (suc r) l e = let m : min 1 (suc r) ≡ 1 = omega arith in rw m (up_only_by a b _ (omega arith) (omega arith))

@@ -1,15 +1,12 @@
 // The three sorts of count, each with its own operations, so that no two sorts mix; and division rounded down and up.
 #![tactic(auto)]
 
-ghost use Rattle.std.specs.Prelude.{◌≡◌, ◌+◌, ◌-◌, ◌*◌, ◌<◌, ◌≤◌, eqb, ltb};
-ghost use Rattle.units.specs.Counts.{largest};
+ghost use Rattle.std.specs.Prelude.{◌≡◌, ◌+◌, ◌-◌, ◌*◌, ◌<◌, ◌≤◌, ltb};
+ghost use Rattle.units.specs.Counts.{largest, sum_if_fits, rest_if_within};
 ghost use Rattle.units.specs.Rounding.{down, up};
 
-// The largest number.
-const LARGEST: u64 = 4_294_967_295;
-
 // A count of token units.
-#[derive(Clone, Copy)]
+#[derive(Clone, Copy, PartialEq, Eq, PartialOrd, Ord)]
 pub struct Amount(pub u32);
 
 impl Amount {
@@ -29,53 +26,30 @@ impl Amount {
         Amount(self.0 - b.0)
     }
 
-    // Whether an amount is less than another.
-    pub fn below(self, b: Amount) -> bool
-        ensures { result ≡ ltb self.0 b.0 }
+    // The sum of two amounts, unless it passes the largest number.
+    pub fn checked_add(self, b: Amount) -> Option<Amount>
+        ensures { result ≡ sum_if_fits self.0 b.0 }
     {
-        self.0 < b.0
+        self.0.checked_add(b.0).map(Amount)
     }
 
-    // Whether the sum of two amounts passes the largest number.
-    pub fn too_much_with(self, b: Amount) -> bool
-        ensures { result ≡ ltb largest (self.0 + b.0) }
+    // An amount less another, unless it is less than the other.
+    pub fn checked_sub(self, b: Amount) -> Option<Amount>
+        ensures { result ≡ rest_if_within self.0 b.0 }
     {
-        LARGEST < (self.0 as u64) + (b.0 as u64)
-    }
-
-    // Whether there is nothing.
-    pub fn is_zero(self) -> bool
-        ensures { result ≡ eqb self.0 0 }
-    {
-        self.0 == 0
+        self.0.checked_sub(b.0).map(Amount)
     }
 }
 
 // Millionths of a quote unit per base unit.
-#[derive(Clone, Copy)]
+#[derive(Clone, Copy, PartialEq, Eq, PartialOrd, Ord)]
 pub struct Price(pub u32);
 
-impl Price {
-    // Whether a price is less than another.
-    pub fn below(self, b: Price) -> bool
-        ensures { result ≡ ltb self.0 b.0 }
-    {
-        self.0 < b.0
-    }
-}
-
 // A block number.
-#[derive(Clone, Copy)]
+#[derive(Clone, Copy, PartialEq, Eq, PartialOrd, Ord)]
 pub struct Block(pub u32);
 
 impl Block {
-    // Whether a block comes before another.
-    pub fn is_before(self, b: Block) -> bool
-        ensures { result ≡ ltb self.0 b.0 }
-    {
-        self.0 < b.0
-    }
-
     // The blocks since another that is not later.
     pub fn since(self, b: Block) -> u32
         requires { b.0 ≤ self.0 }
@@ -88,20 +62,21 @@ impl Block {
     pub fn fewer_since(self, b: Block, n: u32) -> bool
         ensures { result ≡ ltb self.0 (b.0 + n) }
     {
-        (self.0 as u64) < (b.0 as u64) + (n as u64)
+        u64::from(self.0) < u64::from(b.0) + u64::from(n)
     }
 
     // Whether it is more than n blocks since another.
     pub fn more_since(self, b: Block, n: u32) -> bool
         ensures { result ≡ ltb (b.0 + n) self.0 }
     {
-        (b.0 as u64) + (n as u64) < (self.0 as u64)
+        u64::from(b.0) + u64::from(n) < u64::from(self.0)
     }
 }
 
 // The functions below are public for the crates above: their divisor is at least 1 there.
 
 // a / b, rounded down.
+#[tactic(auto, unfolding(crate::specs::Rounding::down))]
 pub fn div_down(a: u64, b: u64) -> u64
     requires { 0 < b }
     ensures { result ≡ down a b }
@@ -110,22 +85,19 @@ pub fn div_down(a: u64, b: u64) -> u64
 }
 
 // a / b, rounded up.
+#[tactic(auto, using(crate::proofs::Rounding::ceil_is))]
 pub fn div_up(a: u64, b: u64) -> u64
     requires { 0 < b }
     ensures { result ≡ up a b }
 {
-    let q = a / b;
-    if a % b == 0 {
-        return q;
-    }
-    q + 1
+    a.div_ceil(b)
 }
 
 // No product of two u32 is too large for a u64.
 pub fn product(a: u32, b: u32) -> u64
     ensures { result ≡ a * b }
 {
-    (a as u64) * (b as u64)
+    u64::from(a) * u64::from(b)
 }
 
 // a × b / d, rounded down.
@@ -133,7 +105,7 @@ pub fn part_down(a: u32, b: u32, d: u32) -> u64
     requires { 0 < d }
     ensures { result ≡ down (a * b) d }
 {
-    div_down(product(a, b), d as u64)
+    div_down(product(a, b), u64::from(d))
 }
 
 // a × b / d, rounded up.
@@ -141,5 +113,5 @@ pub fn part_up(a: u32, b: u32, d: u32) -> u64
     requires { 0 < d }
     ensures { result ≡ up (a * b) d }
 {
-    div_up(product(a, b), d as u64)
+    div_up(product(a, b), u64::from(d))
 }
