@@ -9,8 +9,7 @@ use lib.ListN.{length, get_or-eq_default}
 use borrow.Author.Tests.{eq-eqb, le-ltb, ne_eqb}
 use Rattle.units.proofs.Cases.{false_not_true}
 use Rattle.units.proofs.Decide.{decide_passed}
-use Rattle.ticket_set.specs.declared.Next.{Next}
-use Rattle.ticket_set.specs.declared.Next.TheVariants.{At, Nothing}
+use Rattle.std.specs.Prelude.{Option, Some, None}
 use Rattle.ticket_set.specs.TicketSet.{count_of, members_of, next_of, removed}
 use Rattle.ticket_set.proofs.Laws.{count_le, count_none, count_of_empty}
 use Rattle.ticket_set.proofs.Least.{next_nothing, next_of_empty, next_taken}
@@ -52,17 +51,17 @@ module _ (x : Exchange) (market : ℕ) (low : 0 < market) (high : market < 4) wh
   unfolding marked_in
   left_is = ap first_of told_is
 
-  named_is : (k : ℕ) → next_of (marks x market) ≡ At k → second_of (next_marked x market) ≡ k
+  named_is : (k : ℕ) → next_of (marks x market) ≡ Some k → second_of (next_marked x market) ≡ k
   unfolding marked_in
   named_is k e = ap second_of told_is ∙ ap found e
 
 -- a set with tickets has a lowest
-lowest : (s : ℕ) → s < 2 ^ 64 → (count_of s ≡ 0 → ⊥) → (k : ℕ) × (next_of s ≡ At k)
+lowest : (s : ℕ) → s < 2 ^ 64 → (count_of s ≡ 0 → ⊥) → (k : ℕ) × (next_of s ≡ Some k)
 lowest s h some = go (next_of s) refl
   where
-    go : (v : Next) → next_of s ≡ v → (k : ℕ) × (next_of s ≡ At k)
-    go (At k) e = (k, e)
-    go Nothing e = absurd (some (ap count_of (next_nothing s h e) ∙ count_of_empty))
+    go : (v : Option ℕ) → next_of s ≡ v → (k : ℕ) × (next_of s ≡ Some k)
+    go (Some k) e = (k, e)
+    go None e = absurd (some (ap count_of (next_nothing s h e) ∙ count_of_empty))
 
 -- ---- a market that is paying
 
@@ -119,7 +118,7 @@ module _ (x : Exchange) (l : Reachable x) (market : ℕ) (e : is_paying (phase x
         phase_is = phase_is ∙ sym (settled_some round some_marked);
       }
 
-  next_claimed : (k : ℕ) → next_of (marks x market) ≡ At k → Claimed x market k
+  next_claimed : (k : ℕ) → next_of (marks x market) ≡ Some k → Claimed x market k
   next_claimed k n =
       let t = next_taken (marks x market) k n in
       let o = (reachable_bounded x l).marked market range.0 range.1 k t.0 t.1 in
@@ -161,14 +160,14 @@ named_claims (suc n) x market w h = go (next_of (marks x market)) refl (λ k. na
     left : marks_left x market ≡ count_of (marks x market)
     left = left_is x market w.low w.high
 
-    go : (v : Next) → next_of (marks x market) ≡ v
+    go : (v : Option ℕ) → next_of (marks x market) ≡ v
         → ((k : ℕ) → let y = (step_of x (Call.Claim k)).exchange in Winding y market (marks y market) → count_of (marks y market) ≤ n → claims_named n y market ≡ map Call.Claim (members_of (marks y market)))
         → claims_named (suc n) x market ≡ map Call.Claim (members_of (marks x market))
-    go Nothing e rec =
+    go None e rec =
         ap (λ (t : Bool). cond t [] (next_claim x market ∷ claims_named n (after_claim x market) market))
         (eq-eqb (marks_left x market) 0 (left ∙ ap count_of (next_nothing (marks x market) w.small e) ∙ count_of_empty))
         ∙ ap (map Call.Claim) (sym (members_nothing (marks x market) e))
-    go (At k) e rec =
+    go (Some k) e rec =
         let t = next_taken (marks x market) k e in
         let v = winding_next x market (marks x market) w k e in
         let less : marks (step_of x (Call.Claim k)).exchange market ≡ removed (marks x market) k = winding_tickets _ market _ v in

@@ -8,7 +8,7 @@ ghost use Rattle.closing.specs.Closings.{marked_in, next_marked};
 
 use model::answer::{Answer, Refusal};
 use model::state::{Exchange, Market, Phase};
-use ticket_set::{Next, count, next_ticket};
+use ticket_set::{count, next_ticket};
 
 // The markets.
 const FIRST_MARKET: u32 = 1;
@@ -32,12 +32,7 @@ fn marked(market: Market) -> u64
 fn told(set: u64) -> Answer
     ensures { result ≡ marked_in set }
 {
-    let tickets = count(set);
-    let next = next_ticket(set);
-    match next {
-        Next::At(ticket) => Answer::Accepted(tickets, ticket),
-        Next::Nothing => Answer::Accepted(tickets, 0),
-    }
+    Answer::Accepted(count(set), next_ticket(set).unwrap_or(0))
 }
 
 // How many tickets a market's round marks, and the lowest of them, the next to claim; 0 and 0 where none is marked.

@@ -28,7 +28,7 @@ use Rattle.model.specs.declared.state.TicketState.TheVariants.{Entered}
 use Rattle.pricing.specs.Prices.{share_got, share_paid}
 use Rattle.pricing.specs.declared.Totals.{Totals}
 use Rattle.ticket_set.specs.TicketSet.{bit, count_of, members_from, members_of, next_of, removed}
-use Rattle.ticket_set.specs.declared.Next.TheVariants.{At}
+use Rattle.std.specs.Prelude.{Some}
 use Rattle.units.specs.Counts.{largest}
 use Rattle.model.proofs.Inv.{Inv, MarketOk, RoundOk, auction_is, running_is}
 use Rattle.model.proofs.Frames.{inside}
@@ -345,7 +345,7 @@ module _ (x : Exchange) (market s : ℕ) (w : Winding x market s) where
       ∙ w.tickets
 
   -- the next one claimed
-  pub winding_next : (k : ℕ) → next_of s ≡ At k → Winding (step_of x (Call.Claim k)).exchange market (removed s k)
+  pub winding_next : (k : ℕ) → next_of s ≡ Some k → Winding (step_of x (Call.Claim k)).exchange market (removed s k)
   winding_next k e =
       let n = next_taken s k e in
       let v = reachable_inv w.reachable in

@@ -71,6 +71,13 @@ low_pos r w h g =
 pub step_pos : 0 < price_step
 step_pos = lit< tt
 
+-- the multiple of a step that a price is rounded to is within a step of it
+pub step_up_close : (u : ℕ) → up u price_step * price_step < u + price_step
+step_up_close u = omega (arith, up_high u price_step step_pos)
+
+pub step_down_within : (u : ℕ) → down u price_step * price_step ≤ u
+step_down_within u = omega (arith, down_low u price_step)
+
 -- a price up to hi, rounded up to a multiple of 100 but never above hi
 stepped_up_lem : (hi u : ℕ) → u ≤ hi → SteppedUp hi u (stepped_up hi u)
 stepped_up_lem hi u h =

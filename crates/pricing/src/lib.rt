@@ -27,7 +27,7 @@ const MILLION: u32 = 1_000_000;
 const PRICE_STEP: u64 = 100;
 
 // The side of an order: a buy (0) offers quote, a sell (1) offers base.
-#[derive(Clone, Copy)]
+#[derive(Clone, Copy, PartialEq, Eq)]
 pub enum Side {
     Buy,
     Sell,
@@ -56,32 +56,19 @@ pub struct Share {
 }
 
 // The quote for some base. It can pass 32 bits, so it is an amount only where it is known to be one.
-#[derive(Clone, Copy)]
+#[derive(Clone, Copy, PartialEq, Eq, PartialOrd, Ord)]
 pub struct Quote(pub u64);
 
+impl From<Amount> for Quote {
+    ghost from_gives = { λ a q. q.0 ≡ a.0 };
+
+    fn from(a: Amount) -> Quote {
+        Quote(u64::from(a.0))
+    }
+}
+
 impl Quote {
-    // Whether there is nothing.
-    pub fn is_zero(self) -> bool
-        ensures { result ≡ eqb self.0 0 }
-    {
-        self.0 == 0
-    }
-
-    // Whether it is less than an amount.
-    pub fn below(self, a: Amount) -> bool
-        ensures { result ≡ ltb self.0 a.0 }
-    {
-        self.0 < (a.0 as u64)
-    }
-
-    // Whether it is more than an amount.
-    pub fn above(self, a: Amount) -> bool
-        ensures { result ≡ ltb a.0 self.0 }
-    {
-        (a.0 as u64) < self.0
-    }
-
-    // The same quote as an amount, where it is one.
+    // The same quote as an amount. Its callers know that it is one, so it is no TryFrom, which could fail.
     pub fn to_amount(self) -> Amount
         requires { self.0 ≤ largest }
         ensures { result.0 ≡ self.0 }
@@ -93,6 +80,7 @@ impl Quote {
 // The functions below are public for the crates above. They ask what an open round's numbers keep.
 
 // A round's high bound, from the reference price and the slack in millionths.
+#[tactic(auto, using(crate::proofs::Prices::high_le), unfolding(crate::specs::Prices::high_bound))]
 pub fn high_bound(reference: Price, slack: u32) -> Price
     requires { (reference.0 ≤ highest_reference) × (slack ≤ highest_slack) }
     ensures { result ≡ price (high_bound reference.0 slack) }
@@ -101,6 +89,7 @@ pub fn high_bound(reference: Price, slack: u32) -> Price
 }
 
 // A round's low bound.
+#[tactic(auto, using(crate::proofs::Prices::low_le), unfolding(crate::specs::Prices::low_bound))]
 pub fn low_bound(reference: Price, slack: u32) -> Price
     requires { (reference.0 ≤ highest_reference) × (slack ≤ highest_slack) }
     ensures { result ≡ price (low_bound reference.0 slack) }
@@ -128,10 +117,7 @@ fn base_within(q: Amount, p: Price, most: Amount) -> Amount
     ensures { result.0 ≡ min most.0 (down (q.0 * million) p.0) }
 {
     let fetched = part_down(q.0, MILLION, p.0);
-    if (most.0 as u64) < fetched {
-        return most;
-    }
-    Amount(fetched as u32)
+    Amount(fetched.min(u64::from(most.0)) as u32)
 }
 
 // Whether quote for base is above a price.
@@ -149,23 +135,21 @@ fn reaches(quote: Amount, base: Amount, p: Price) -> bool
 }
 
 // What is traded for the quote rounded down: nothing where it is 0 or below lo.
-fn lower_trade(base: Amount, quote: Amount, lo: Price) -> Trade
-    ensures { result ≡ lower_trade lo.0 base.0 quote.0 }
+fn lower_trade(base: Amount, lower: Amount, lo: Price) -> Trade
+    ensures { result ≡ lower_trade lo.0 base.0 lower.0 }
 {
-    let none = Trade {
-        base: Amount(0),
-        quote: Amount(0),
-    };
-    if quote.0 < 1 {
-        return none;
+    if Amount(1) <= lower && reaches(lower, base, lo) {
+        Trade { base, quote: lower }
+    } else {
+        Trade {
+            base: Amount(0),
+            quote: Amount(0),
+        }
     }
-    if reaches(quote, base, lo) {
-        return Trade { base, quote };
-    }
-    none
 }
 
 // What buys of q quote and sells of s base trade at the reference price: the quote is rounded up, or down where that breaks hi.
+#[tactic(auto, using(crate::proofs::Trades::quote_le, crate::proofs::Trades::lower_le), unfolding(crate::specs::Prices::trade_within, crate::specs::Prices::match_base, crate::specs::Prices::match_quote, crate::specs::Prices::lower_quote))]
 pub fn trade_within(q: Amount, s: Amount, reference: Price, hi: Price, lo: Price) -> Trade
     requires { 1 ≤ reference.0 }
     ensures { result ≡ trade_within q.0 s.0 reference.0 hi.0 lo.0 }
@@ -174,12 +158,14 @@ pub fn trade_within(q: Amount, s: Amount, reference: Price, hi: Price, lo: Price
     let quote = quote_up(base, reference).to_amount();
     if dearer(quote, base, hi) {
         let lower = quote_down(base, reference).to_amount();
-        return lower_trade(base, lower, lo);
+        lower_trade(base, lower, lo)
+    } else {
+        Trade { base, quote }
     }
-    Trade { base, quote }
 }
 
 // An auction's price before it is stepped.
+#[tactic(auto, using(units::proofs::Rounding::part_down_le))]
 fn linear_price(side: Side, hi: Price, lo: Price, k: u32, length: u32) -> Price
     requires { (lo.0 ≤ hi.0) × (k ≤ length) × (1 ≤ length) }
     ensures { result.0 ≡ linear_price side hi.0 lo.0 k length }
@@ -192,28 +178,25 @@ fn linear_price(side: Side, hi: Price, lo: Price, k: u32, length: u32) -> Price
 }
 
 // A price rounded up to a step, but never above hi. Rounded up it can pass 32 bits.
+#[tactic(auto, using(crate::proofs::Prices::step_up_close))]
 fn stepped_up(p: Price, hi: Price) -> Price
     ensures { result.0 ≡ stepped_up hi.0 p.0 }
 {
-    let rounded = div_up(p.0 as u64, PRICE_STEP) * PRICE_STEP;
-    if (hi.0 as u64) < rounded {
-        return hi;
-    }
-    Price(rounded as u32)
+    let rounded = div_up(u64::from(p.0), PRICE_STEP) * PRICE_STEP;
+    Price(rounded.min(u64::from(hi.0)) as u32)
 }
 
 // A price rounded down to a step, but never below lo.
+#[tactic(auto, using(crate::proofs::Prices::step_down_within))]
 fn stepped_down(p: Price, lo: Price) -> Price
     ensures { result.0 ≡ stepped_down lo.0 p.0 }
 {
-    let rounded = div_down(p.0 as u64, PRICE_STEP) * PRICE_STEP;
-    if rounded < (lo.0 as u64) {
-        return lo;
-    }
-    Price(rounded as u32)
+    let rounded = div_down(u64::from(p.0), PRICE_STEP) * PRICE_STEP;
+    Price(rounded.max(u64::from(lo.0)) as u32)
 }
 
 // The price k blocks into an auction of length blocks, of what a side's orders left, stepped.
+#[tactic(auto, unfolding(crate::specs::Prices::auction_price))]
 pub fn auction_price(side: Side, hi: Price, lo: Price, k: u32, length: u32) -> Price
     requires { (lo.0 ≤ hi.0) × (k ≤ length) × (1 ≤ length) }
     ensures { result ≡ price (auction_price side hi.0 lo.0 k length) }
@@ -226,6 +209,7 @@ pub fn auction_price(side: Side, hi: Price, lo: Price, k: u32, length: u32) -> P
 }
 
 // The quote for n base at a price: what a maker pays for what sells left, or gets of what buys left.
+#[tactic(auto, unfolding(crate::specs::Prices::quote_for))]
 pub fn quote_for(side: Side, n: Amount, p: Price) -> Quote
     ensures { result.0 ≡ quote_for side n.0 p.0 }
 {
@@ -236,6 +220,7 @@ pub fn quote_for(side: Side, n: Amount, p: Price) -> Quote
 }
 
 // The share of an offer in its side.
+#[tactic(auto, using(crate::proofs::Shares::paid_le_paid, crate::proofs::Shares::got_le_got), unfolding(crate::specs::Prices::share_paid, crate::specs::Prices::share_got, crate::specs::Prices::share_of))]
 pub fn share_of(offer: Amount, side: Totals) -> Share
     requires { (1 ≤ side.total.0) × (offer.0 ≤ side.total.0) }
     ensures { result ≡ share_of offer.0 side }

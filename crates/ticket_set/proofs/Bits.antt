@@ -9,7 +9,8 @@ use native.Mathlib.Omega.{arith}
 use lib.Dec.{lit<}
 use lib.Arith.{digits_mod}
 use lib.Pow.{pow_pos, pow-lt, pow-add, shl_exact}
-use lib.Bits.{bit_and, bit_or, or_step, or_shr, or_add_and, or_lt, and_high, and_le_l}
+use lib.Bits.{bit_and, bit_or, or_step, or_shr, or_add_and, or_lt, and_comm, and_high, and_le_l}
+use Rattle.std.proofs.lemmas.Nat.{and-not}
 use borrow.Author.Tests.{eqb-true, eqb-false}
 use Rattle.ticket_set.specs.TicketSet.{bit, has_ticket, inserted, removed}
 
@@ -52,6 +53,17 @@ or_bit m i = go (bit m i) (bit_lt m i) (and_bit m i)
     go zero h e = omega (arith, or_add_and m (2 ^ i))
     go (suc zero) h e = omega (arith, or_add_and m (2 ^ i))
     go (suc (suc b)) h e = absurd (omega arith)
+
+pub or_shl : (m i : ℕ) → i < 64 → bit_or m (1 * 2 ^ i % 2 ^ 64) ≡ inserted m i
+or_shl m i h = rw (one_shl i h) (or_bit m i)
+
+-- `m & !(1 << i)`
+pub and_not_shl : (m i : ℕ) → m < 2 ^ 64 → i < 64 → bit_and m (2 ^ 64 - 1 - 1 * 2 ^ i % 2 ^ 64) ≡ removed m i
+unfolding removed
+and_not_shl m i h g =
+    rw (one_shl i g) (
+    omega (arith, and-not 64 (2 ^ i) m (pow-lt g) h, and_comm (2 ^ 64 - 1 - 2 ^ i) m, and_comm (2 ^ i) m, and_bit m i)
+    )
 
 -- ---- the bits after an insert
 

@@ -4,7 +4,7 @@ use mathlib.Core.List.{[], ◌∷◌}
 use mathlib.Core.Logic.{⊎_elim}
 use Prim.Native.Nat.{ℕ, zero, suc, ◌≤◌}
 use native.Mathlib.Omega.{arith}
-use Rattle.ticket_set.specs.declared.Next.TheVariants.{At, Nothing}
+use Rattle.std.specs.Prelude.{Some, None}
 use Rattle.ticket_set.specs.TicketSet.{bit, removed, next_from, next_of, members_from, members_of}
 use Rattle.ticket_set.proofs.Bits.{bit_cases, bit_removed_same, bit_removed_other}
 use Rattle.ticket_set.proofs.Least.{next_here, next_there, from_least}
@@ -29,7 +29,7 @@ members_agree (suc d) i m n h =
     (λ (o : bit m i ≡ 1). members_here d i m o ∙ ap (◌∷◌ i) rest ∙ sym (members_here d i n (sym (h i (omega arith)) ∙ o)))
     (bit_cases m i)
 
-next_first : (d i m k : ℕ) → next_from d i m ≡ At k → members_from d i m ≡ k ∷ members_from d i (removed m k)
+next_first : (d i m k : ℕ) → next_from d i m ≡ Some k → members_from d i m ≡ k ∷ members_from d i (removed m k)
 unfolding next_from
 next_first zero i m k e = absurd (let z : ◌≡◌ {A = ℕ} 0 1 = cc in omega arith)
 next_first (suc d) i m k e =
@@ -52,11 +52,11 @@ next_first (suc d) i m k e =
         members_there d i m z ∙ r
         ∙ ap (◌∷◌ k) (sym (members_there d i (removed m k) (bit_removed_other m k i (λ q. omega (arith, ap (bit m) q, one, z)) ∙ z)))
 
-pub members_next : (m k : ℕ) → next_of m ≡ At k → members_of m ≡ k ∷ members_of (removed m k)
+pub members_next : (m k : ℕ) → next_of m ≡ Some k → members_of m ≡ k ∷ members_of (removed m k)
 unfolding next_of members_of
 members_next m k e = next_first 64 0 m k e
 
-next_none : (d i m : ℕ) → next_from d i m ≡ Nothing → members_from d i m ≡ []
+next_none : (d i m : ℕ) → next_from d i m ≡ None → members_from d i m ≡ []
 unfolding members_from
 next_none zero i m e = refl
 next_none (suc d) i m e =
@@ -65,6 +65,6 @@ next_none (suc d) i m e =
     (λ (o : bit m i ≡ 1). absurd (let h = next_here d i m o in let z : ◌≡◌ {A = ℕ} 0 1 = cc in omega arith))
     (bit_cases m i)
 
-pub members_nothing : (m : ℕ) → next_of m ≡ Nothing → members_of m ≡ []
+pub members_nothing : (m : ℕ) → next_of m ≡ None → members_of m ≡ []
 unfolding next_of members_of
 members_nothing m e = next_none 64 0 m e

@@ -1,8 +1,6 @@
 -- Cases of the set of tickets, worked by hand: the tickets at the ends and in the middle, 0, 1, 31, 32, 62 and 63, in the empty set, in the
 -- full one, and in some between.
-use Rattle.std.specs.Prelude.{ℕ, Bool, true, false, List, [], ◌∷◌, map}
-use Rattle.ticket_set.specs.declared.Next.{Next}
-use Rattle.ticket_set.specs.declared.Next.TheVariants.{At, Nothing}
+use Rattle.std.specs.Prelude.{ℕ, Bool, true, false, List, [], ◌∷◌, Option, Some, None, map}
 use Rattle.ticket_set.specs.TicketSet.{
   bit,
   has_ticket,
@@ -72,18 +70,18 @@ size_cases =
 
 -- ---- the least member, and all members in rising order
 
-unfoldable pub next_cases : List (List Next × List Next)
+unfoldable pub next_cases : List (List (Option ℕ) × List (Option ℕ))
 next_cases =
-    (map next_of (0 ∷ 1 ∷ 2 ∷ 5 ∷ 6 ∷ []), Nothing ∷ At 0 ∷ At 1 ∷ At 0 ∷ At 1 ∷ [])
+    (map next_of (0 ∷ 1 ∷ 2 ∷ 5 ∷ 6 ∷ []), None ∷ Some 0 ∷ Some 1 ∷ Some 0 ∷ Some 1 ∷ [])
     -- 2^31, 2^32 + 2^63, 2^62 + 2^63, 2^63, all, 2^64
     ∷ (
       map next_of (2147483648 ∷ 9223372041149743104 ∷ 13835058055282163712 ∷ 9223372036854775808 ∷ full ∷ 18446744073709551616 ∷ []),
-      At 31 ∷ At 32 ∷ At 62 ∷ At 63 ∷ At 0 ∷ Nothing ∷ [],
+      Some 31 ∷ Some 32 ∷ Some 62 ∷ Some 63 ∷ Some 0 ∷ None ∷ [],
     )
     -- ticket 3 alone, among 0, 1, 2 and 3 tickets from 1 on, and from 3 and 4 on
     ∷ (
       next_from 0 1 8 ∷ next_from 1 1 8 ∷ next_from 2 1 8 ∷ next_from 3 1 8 ∷ next_from 1 3 8 ∷ next_from 0 3 8 ∷ next_from 9 4 8 ∷ [],
-      Nothing ∷ Nothing ∷ Nothing ∷ At 3 ∷ At 3 ∷ Nothing ∷ Nothing ∷ [],
+      None ∷ None ∷ None ∷ Some 3 ∷ Some 3 ∷ None ∷ None ∷ [],
     )
     ∷ []
 

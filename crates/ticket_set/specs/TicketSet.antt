@@ -1,9 +1,7 @@
 -- "The round marks each of the 64 tickets with one bit; the count of set bits is the number of its tickets": a set of tickets is a number
 -- whose bit k, counted from the lowest, is 1 where ticket k is a member.
-use Rattle.std.specs.Prelude.{Bool, cond, List, [], ◌∷◌, ℕ, zero, suc, ◌+◌, ◌-◌, ◌*◌, ◌/◌, ◌%◌, ◌^◌, eqb}
+use Rattle.std.specs.Prelude.{Bool, cond, List, [], ◌∷◌, Option, Some, None, ℕ, zero, suc, ◌+◌, ◌-◌, ◌*◌, ◌/◌, ◌%◌, ◌^◌, eqb}
 use Rattle.units.specs.Sums.{sum_to}
-use Rattle.ticket_set.specs.declared.Next.{Next}
-use Rattle.ticket_set.specs.declared.Next.TheVariants.{At, Nothing}
 
 -- bit k of s: 0 or 1
 unfoldable pub bit : ℕ → ℕ → ℕ
@@ -24,12 +22,12 @@ unfoldable pub count_of : ℕ → ℕ
 count_of s = sum_to 64 (bit s)
 
 -- the first member among the n tickets from k on
-unfoldable pub next_from : ℕ → ℕ → ℕ → Next
-next_from zero k s = Nothing
-next_from (suc n) k s = cond (has_ticket s k) (At k) (next_from n (suc k) s)
+unfoldable pub next_from : ℕ → ℕ → ℕ → Option ℕ
+next_from zero k s = None
+next_from (suc n) k s = cond (has_ticket s k) (Some k) (next_from n (suc k) s)
 
 -- the least member
-unfoldable pub next_of : ℕ → Next
+unfoldable pub next_of : ℕ → Option ℕ
 next_of s = next_from 64 0 s
 
 -- the members among the n tickets from k on, and all members, lowest first
