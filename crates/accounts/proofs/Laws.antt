@@ -14,12 +14,11 @@ use Rattle.model.specs.declared.state.Order.{Order}
 use Rattle.model.specs.declared.state.Ticket.{Ticket}
 use Rattle.model.specs.declared.state.TicketState.{TicketState}
 use Rattle.model.specs.declared.state.TicketState.TheVariants.{Free, Resting, Entered}
-use Rattle.model.specs.declared.answer.Answer.TheVariants.{Accepted}
 use Rattle.model.specs.declared.answer.Refusal.TheVariants.{NoSuchOrder, WrongTicketState}
 use Rattle.model.specs.Sides.{offered}
 use Rattle.model.proofs.Frames.{offered_lt}
 use Rattle.parts.specs.Asked.{CancelBounds}
-use Rattle.parts.specs.declared.Placed.{Placed}
+use Rattle.parts.specs.After.{Placed}
 use Rattle.model.specs.State.{order_in, is_free, is_entered}
 use Rattle.parts.specs.Parts.{refused_placed, cancelled_on, cancel_on}
 
@@ -54,7 +53,7 @@ module _ (row : Row) (t : Ticket) (m : ℕ) where
 
   -- and what the ledger's call gives of it
   pub cancel_credited : (o : Order) → CancelBounds row t → t.state ≡ Resting o → o.member ≡ m
-      → cancel_on row t m ≡ record { answer = Accepted o.offer.0 0; row = (credit_row_of row (offered o.side o.market) o.offer.0).row; ticket = record { state = Free } }
+      → cancel_on row t m ≡ record { answer = Ok (o.offer.0, 0); row = (credit_row_of row (offered o.side o.market) o.offer.0).row; ticket = record { state = Free } }
   cancel_credited o fits e own =
       let f = fits o e in
       rw ((credit_row_calls row (offered o.side o.market) o.offer.0).done (omega (arith, offered_lt o.side o.market f.0)) f.1)

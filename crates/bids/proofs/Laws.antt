@@ -12,9 +12,8 @@ use Rattle.pricing.specs.declared.Side.{Side}
 use Rattle.pricing.specs.declared.Side.TheVariants.{Buy, Sell}
 use Rattle.pricing.specs.declared.Totals.{Totals}
 use Rattle.ledger.specs.declared.Row.{Row}
-use Rattle.ledger.specs.declared.RowPosting.{RowPosting}
 use Rattle.ledger.specs.Balances.{RowShaped, cell_of, credited_row, debited_row}
-use Rattle.ledger.specs.Postings.{credit_row_of, debit_row_of}
+use Rattle.ledger.specs.Postings.{RowPosting, credit_row_of, debit_row_of}
 use Rattle.ledger.proofs.Laws.{debit_row_calls, credit_row_calls, row_debits}
 use Rattle.model.specs.declared.state.Round.{Round}
 use Rattle.model.specs.declared.state.Phase.TheVariants.{Auction}

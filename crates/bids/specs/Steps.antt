@@ -9,7 +9,7 @@ use Rattle.ledger.specs.Balances.{cell_of}
 use Rattle.model.specs.declared.state.Round.{Round}
 use Rattle.model.specs.declared.state.Market.{Market}
 use Rattle.model.specs.declared.answer.Refusal.TheVariants.{InsufficientBalance}
-use Rattle.parts.specs.declared.Traded.{Traded}
+use Rattle.parts.specs.After.{Traded}
 use Rattle.model.specs.Sides.{other, wanted, gives, takes}
 use Rattle.model.specs.State.{totals_of}
 use Rattle.model.specs.Calls.{below}

@@ -8,7 +8,7 @@ ghost use Rattle.lines.specs.CallText.{Small};
 ghost use Rattle.call_numbers.specs.Numbers.{call_numbers};
 
 use fields::Fields;
-use lines::call::{Reading, call_of};
+use lines::call::call_of;
 use model::call::Call;
 
 // The first count of the values are a call's kind number and its fields, and the rest are 0.
@@ -104,11 +104,11 @@ pub fn numbers_of(call: Call) -> CallNumbers
 }
 
 // The call that a kind number and fields are, or none.
-pub fn call_of_fields(kind: u32, fields: &[u32]) -> Reading
+pub fn call_of_fields(kind: u32, fields: &[u32]) -> Option<Call>
     ensures { result ≡ call_of («kind» ∷ fields.now) }
 {
     if MOST_FIELDS < fields.len() {
-        return Reading::NoCall;
+        return None;
     }
     let mut values: [u32; 8] = [0; 8];
     values[0] = kind;

@@ -11,7 +11,6 @@ use Rattle.model.specs.declared.answer.Refusal.TheVariants.{MalformedLine, Buffe
 use Rattle.model.specs.declared.call.Call.TheVariants.{Enter}
 use Rattle.model.specs.Answers.{refusal_code}
 use Rattle.lines.specs.declared.call.LineAt.{LineAt}
-use Rattle.lines.specs.declared.call.Reading.TheVariants.{NoCall}
 use Rattle.lines.specs.CallLines.{of_kind, call_of, reading_of, line_at}
 use Rattle.lines.specs.CallText.{line_of_numbers, line_of_call, call_line}
 use Rattle.lines.specs.LineExamples.{CallLine, call_lines, no_calls}
@@ -79,7 +78,7 @@ unfolding text_computes written_of put_of of_kind fields_put
 fields_put_lem = refl
 
 -- the number of 20's refusal
-pub no_call_code : (room at : ℕ) → (put_of room at NoCall).code ≡ refusal_code MalformedLine
+pub no_call_code : (room at : ℕ) → (put_of room at None).code ≡ refusal_code MalformedLine
 unfolding put_of
 no_call_code room at = refl
 

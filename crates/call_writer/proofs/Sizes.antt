@@ -12,7 +12,6 @@ use Rattle.units.proofs.Cases.{false_not_true, by_test}
 use Rattle.decimal.proofs.Digits.{digits_some}
 use Rattle.model.specs.declared.call.Call.{Call}
 use Rattle.model.specs.Kinds.{Taking, Kind, from_fields, kinds}
-use Rattle.lines.specs.declared.call.Reading.TheVariants.{Read}
 use Rattle.lines.specs.CallLines.{reading, read_in, of_kind}
 use Rattle.lines.specs.CallText.{join_parts, line_of_numbers, line_of_call, Small}
 use Rattle.lines.proofs.RoundTrip.{Remade, remade, numbers_length, no_read}
@@ -37,13 +36,13 @@ both true y e = (refl, e)
 both false y e = absurd (false_not_true e)
 
 -- as many fields as the kind has
-fields_count : (n : ℕ) (f : Taking n) (fields : List ℕ) (c : Call) → reading (from_fields n f fields) ≡ Read c → length fields ≡ n
+fields_count : (n : ℕ) (f : Taking n) (fields : List ℕ) (c : Call) → reading (from_fields n f fields) ≡ Some c → length fields ≡ n
 fields_count zero d [] c e = refl
 fields_count zero d (a ∷ fields) c e = absurd (no_read c e)
 fields_count (suc n) f [] c e = absurd (no_read c e)
 fields_count (suc n) f (a ∷ fields) c e = ap suc (fields_count n (f a) fields c e)
 
-read_fits : (ks : List Kind) → all_fit ks ≡ true → (number : ℕ) (fields : List ℕ) (c : Call) → read_in ks number fields ≡ Read c
+read_fits : (ks : List Kind) → all_fit ks ≡ true → (number : ℕ) (fields : List ℕ) (c : Call) → read_in ks number fields ≡ Some c
     → (1 ≤ length fields) × (length (digits number) + 11 * length fields + 1 ≤ longest_call)
 read_fits [] t number fields c e = absurd (no_read c e)
 read_fits (k ∷ ks) t number fields c e =

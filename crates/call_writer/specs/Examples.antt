@@ -1,10 +1,8 @@
 -- Calls written at places of a buffer, and lines read and written again, worked by hand.
-use Rattle.std.specs.Prelude.{ℕ, ◌+◌, List, [], ◌∷◌, ◌++◌, length}
+use Rattle.std.specs.Prelude.{ℕ, ◌+◌, List, [], ◌∷◌, ◌++◌, length, Some, None, Option}
 use Rattle.decimal.specs.Examples.{hashes}
 use Rattle.model.specs.declared.call.Call.{Call}
 use Rattle.model.specs.declared.call.Call.TheVariants.{Enter, Bid, Claim}
-use Rattle.lines.specs.declared.call.Reading.{Reading}
-use Rattle.lines.specs.declared.call.Reading.TheVariants.{Read, NoCall}
 use Rattle.lines.specs.LineExamples.{CallLine}
 
 -- ---- calls written
@@ -104,11 +102,11 @@ fields_put =
 pub record LineAgain : Type 0 where
   pub bytes : List ℕ
   pub from : ℕ
-  pub reading : Reading
+  pub reading : Option Call
   pub end : ℕ
   pub line : List ℕ
 
-abbrev again : List ℕ → ℕ → Reading → ℕ → List ℕ → LineAgain
+abbrev again : List ℕ → ℕ → Option Call → ℕ → List ℕ → LineAgain
 again bytes from reading end line = record { bytes = bytes; from = from; reading = reading; end = end; line = line }
 
 -- 6,0LF 10,63LF 6,1
@@ -117,10 +115,10 @@ three_lines = 54 ∷ 44 ∷ 48 ∷ 10 ∷ 49 ∷ 48 ∷ 44 ∷ 54 ∷ 51 ∷ 10 
 
 unfoldable pub lines_again : List LineAgain
 lines_again =
-    again (54 ∷ 44 ∷ 48 ∷ []) 0 (Read (Enter 0)) 3 (54 ∷ 44 ∷ 48 ∷ 10 ∷ [])  -- 6,0
-    ∷ again (54 ∷ 44 ∷ 48 ∷ 10 ∷ []) 0 (Read (Enter 0)) 3 (54 ∷ 44 ∷ 48 ∷ 10 ∷ [])  -- 6,0LF
-    ∷ again (54 ∷ 44 ∷ 48 ∷ 10 ∷ 120 ∷ 121 ∷ 122 ∷ []) 0 (Read (Enter 0)) 3 (54 ∷ 44 ∷ 48 ∷ 10 ∷ [])  -- 6,0LF xyz
-    ∷ again (54 ∷ 44 ∷ 48 ∷ 48 ∷ 10 ∷ []) 0 NoCall 4 []  -- 6,00LF
-    ∷ again three_lines 4 (Read (Claim 63)) 9 (49 ∷ 48 ∷ 44 ∷ 54 ∷ 51 ∷ 10 ∷ [])
-    ∷ again three_lines 10 (Read (Enter 1)) 13 (54 ∷ 44 ∷ 49 ∷ 10 ∷ [])
+    again (54 ∷ 44 ∷ 48 ∷ []) 0 (Some (Enter 0)) 3 (54 ∷ 44 ∷ 48 ∷ 10 ∷ [])  -- 6,0
+    ∷ again (54 ∷ 44 ∷ 48 ∷ 10 ∷ []) 0 (Some (Enter 0)) 3 (54 ∷ 44 ∷ 48 ∷ 10 ∷ [])  -- 6,0LF
+    ∷ again (54 ∷ 44 ∷ 48 ∷ 10 ∷ 120 ∷ 121 ∷ 122 ∷ []) 0 (Some (Enter 0)) 3 (54 ∷ 44 ∷ 48 ∷ 10 ∷ [])  -- 6,0LF xyz
+    ∷ again (54 ∷ 44 ∷ 48 ∷ 48 ∷ 10 ∷ []) 0 None 4 []  -- 6,00LF
+    ∷ again three_lines 4 (Some (Claim 63)) 9 (49 ∷ 48 ∷ 44 ∷ 54 ∷ 51 ∷ 10 ∷ [])
+    ∷ again three_lines 10 (Some (Enter 1)) 13 (54 ∷ 44 ∷ 49 ∷ 10 ∷ [])
     ∷ []

@@ -1,10 +1,9 @@
 -- The statements of Writing.antt and RoundTrips.antt used: at places that just fit and beside them, on a line of four bytes.
-use Rattle.std.specs.Prelude.{ℕ, ◌+◌, ◌≤◌, ◌≡◌, List, [], ◌∷◌, ◌++◌, length, drop}
+use Rattle.std.specs.Prelude.{ℕ, ◌+◌, ◌≤◌, ◌≡◌, List, [], ◌∷◌, ◌++◌, length, drop, Some}
 use Rattle.decimal.specs.Buffer.{put_from}
 use Rattle.model.specs.declared.call.Call.{Call}
 use Rattle.model.specs.declared.call.Call.TheVariants.{Enter}
 use Rattle.model.specs.Kinds.{numbers_of_call}
-use Rattle.lines.specs.declared.call.Reading.TheVariants.{Read}
 use Rattle.lines.specs.CallLines.{call_of, line_at}
 use Rattle.lines.specs.CallText.{line_of_numbers, call_line, Small}
 use Rattle.call_writer.specs.declared.CallWritten.TheVariants.{Written, TooShort}
@@ -29,9 +28,9 @@ pub record LawsUsed : Type 0 where
   pub most : (c : Call) → LineBounded c → length (call_line c) ≤ 68
   pub largest : LinesBounded → Small (numbers_of_call (Enter 4294967295)) → LineBounded (Enter 4294967295)
   -- the numbers 6 and 0
-  pub numbers : NumbersKept → (c : Call) → call_of (6 ∷ 0 ∷ []) ≡ Read c → line_of_reading (call_of (6 ∷ 0 ∷ [])) ≡ line_of_numbers (6 ∷ 0 ∷ []) ++ (10 ∷ [])
+  pub numbers : NumbersKept → (c : Call) → call_of (6 ∷ 0 ∷ []) ≡ Some c → line_of_reading (call_of (6 ∷ 0 ∷ [])) ≡ line_of_numbers (6 ∷ 0 ∷ []) ++ (10 ∷ [])
   -- 6,0LF at place 2 of six bytes
-  pub read_there : WrittenRead → (out : List ℕ) → length out ≡ 6 → line_at (put_from out 2 (call_line (Enter 0))) 2 ≡ record { reading = Read (Enter 0); end = 5 }
+  pub read_there : WrittenRead → (out : List ℕ) → length out ≡ 6 → line_at (put_from out 2 (call_line (Enter 0))) 2 ≡ record { reading = Some (Enter 0); end = 5 }
   -- at the start of any bytes
-  pub line_there : ReadWritten → (bytes : List ℕ) → (line_at bytes 0).reading ≡ Read (Enter 0) → LineOf bytes 0 (Enter 0) (line_at bytes 0).end
-  pub over_there : WrittenOver → (bytes : List ℕ) → (line_at bytes 0).reading ≡ Read (Enter 0) → put_from bytes 0 (call_line (Enter 0)) ≡ bytes
+  pub line_there : ReadWritten → (bytes : List ℕ) → (line_at bytes 0).reading ≡ Some (Enter 0) → LineOf bytes 0 (Enter 0) (line_at bytes 0).end
+  pub over_there : WrittenOver → (bytes : List ℕ) → (line_at bytes 0).reading ≡ Some (Enter 0) → put_from bytes 0 (call_line (Enter 0)) ≡ bytes

@@ -1,9 +1,8 @@
 -- Document 02's L1, over bytes and places: a call written and read again, and a line read and written again.
-use Rattle.std.specs.Prelude.{ℕ, ◌+◌, ◌≤◌, ◌≡◌, cond, List, ◌++◌, ltb, length, drop}
+use Rattle.std.specs.Prelude.{ℕ, ◌+◌, ◌≤◌, ◌≡◌, cond, List, ◌++◌, ltb, length, drop, Some}
 use Rattle.decimal.specs.Buffer.{put_from}
 use Rattle.model.specs.declared.call.Call.{Call}
 use Rattle.model.specs.Kinds.{numbers_of_call}
-use Rattle.lines.specs.declared.call.Reading.TheVariants.{Read}
 use Rattle.lines.specs.CallLines.{line_at}
 use Rattle.lines.specs.CallText.{line_of_call, call_line, Small}
 use Rattle.call_writer.specs.declared.CallWritten.{CallWritten}
@@ -12,11 +11,11 @@ use Rattle.call_writer.specs.declared.CallWritten.TheVariants.{Written, TooShort
 -- "Any call written and read again is the same call": what was written at a place is read there as that call, and ends where its line ends
 abbrev pub WrittenRead : Type 0
 WrittenRead = (out : List ℕ) (at : ℕ) (c : Call) → Small (numbers_of_call c) → at + length (call_line c) ≤ length out
-    → line_at (put_from out at (call_line c)) at ≡ record { reading = Read c; end = at + length (line_of_call c) }
+    → line_at (put_from out at (call_line c)) at ≡ record { reading = Some c; end = at + length (line_of_call c) }
 
 -- the same of a call in code, whose fields are all small: where its line was written, it is read there
 abbrev pub ReadAgain : List ℕ → ℕ → Call → CallWritten → Type 0
-ReadAgain out at c (Written n) = line_at out at ≡ record { reading = Read c; end = at + length (line_of_call c) }
+ReadAgain out at c (Written n) = line_at out at ≡ record { reading = Some c; end = at + length (line_of_call c) }
 ReadAgain out at c TooShort = Unit {0}
 
 -- "A line that the reader accepts is the line the writer makes of it, but for a missing byte 10 at the very end": the bytes from a place on, of
@@ -27,8 +26,8 @@ pub record LineOf (bytes : List ℕ) (from : ℕ) (c : Call) (end : ℕ) : Type 
   pub line : drop from bytes ≡ cond (ltb end (length bytes)) (call_line c ++ drop (end + 1) bytes) (line_of_call c)
 
 abbrev pub ReadWritten : Type 0
-ReadWritten = (bytes : List ℕ) (from : ℕ) (c : Call) → (line_at bytes from).reading ≡ Read c → LineOf bytes from c (line_at bytes from).end
+ReadWritten = (bytes : List ℕ) (from : ℕ) (c : Call) → (line_at bytes from).reading ≡ Some c → LineOf bytes from c (line_at bytes from).end
 
 -- so a line that was read, written again where it stands, leaves every byte as it was; at the very end it does not fit
 abbrev pub WrittenOver : Type 0
-WrittenOver = (bytes : List ℕ) (from : ℕ) (c : Call) → (line_at bytes from).reading ≡ Read c → put_from bytes from (call_line c) ≡ bytes
+WrittenOver = (bytes : List ℕ) (from : ℕ) (c : Call) → (line_at bytes from).reading ≡ Some c → put_from bytes from (call_line c) ≡ bytes

@@ -1,10 +1,8 @@
 -- Document 02's L1, "Lines out as well as in": what the call writer answers. The line is `call_line`, the buffer after it `put_from`.
-use Rattle.std.specs.Prelude.{ℕ, ◌+◌, ◌≤◌, ◌≡◌, cond, ◌||◌, List, [], ◌∷◌, ◌++◌, length, take, drop, leb, ltb}
+use Rattle.std.specs.Prelude.{ℕ, ◌+◌, ◌≤◌, ◌≡◌, cond, ◌||◌, List, [], ◌∷◌, ◌++◌, length, take, drop, leb, ltb, Some, None, Option}
 use Rattle.decimal.specs.Buffer.{put_from}
 use Rattle.model.specs.declared.call.Call.{Call}
 use Rattle.model.specs.Kinds.{numbers_of_call}
-use Rattle.lines.specs.declared.call.Reading.{Reading}
-use Rattle.lines.specs.declared.call.Reading.TheVariants.{Read, NoCall}
 use Rattle.lines.specs.CallLines.{call_of}
 use Rattle.lines.specs.CallText.{line_of_numbers, call_line, Small}
 use Rattle.call_writer.specs.declared.CallWritten.{CallWritten}
@@ -61,19 +59,19 @@ LinesBounded = (c : Call) → Small (numbers_of_call c) → LineBounded c
 -- ---- plain numbers
 
 -- what is written of a kind number and fields: the line of the call that they are, and nothing where they are none's
-abbrev pub line_of_reading : Reading → List ℕ
-line_of_reading (Read c) = call_line c
-line_of_reading NoCall = []
+abbrev pub line_of_reading : Option Call → List ℕ
+line_of_reading (Some c) = call_line c
+line_of_reading None = []
 
 -- that line has the very numbers, in their order
 abbrev pub NumbersKept : Type 0
-NumbersKept = (ns : List ℕ) (c : Call) → call_of ns ≡ Read c → line_of_reading (call_of ns) ≡ line_of_numbers ns ++ (10 ∷ [])
+NumbersKept = (ns : List ℕ) (c : Call) → call_of ns ≡ Some c → line_of_reading (call_of ns) ≡ line_of_numbers ns ++ (10 ∷ [])
 
 -- code and length of a call
 abbrev pub told_of : CallWritten → LinePut
 told_of w = record { code = written_code w; length = written_length w }
 
 -- what is told of plain numbers at a place of a buffer of room bytes; what is no call has no line that could fit or not, so it is 20 at every place
-unfoldable pub put_of : ℕ → ℕ → Reading → LinePut
-put_of room at (Read c) = told_of (written_of room at (call_line c))
-put_of room at NoCall = record { code = 20; length = 0 }
+unfoldable pub put_of : ℕ → ℕ → Option Call → LinePut
+put_of room at (Some c) = told_of (written_of room at (call_line c))
+put_of room at None = record { code = 20; length = 0 }

@@ -10,7 +10,6 @@ ghost use Rattle.call_writer.specs.RoundTrips.{ReadAgain};
 
 use call_numbers::{call_of_fields, numbers_of};
 use decimal::{digit_count, write_field};
-use lines::call::Reading;
 use model::call::Call;
 
 // No call's line is longer, its byte 10 included.
@@ -130,8 +129,8 @@ pub fn put_call_of_fields(kind: u32, fields: &[u32], out: &mut [u8], at: usize) 
     ensures out_after { out.new ≡ put_from out.old at (line_of_reading (call_of («kind» ∷ fields.now))) }
 {
     match call_of_fields(kind, fields) {
-        Reading::Read(call) => line_told(write_call(out, at, call)),
-        Reading::NoCall => LinePut {
+        Some(call) => line_told(write_call(out, at, call)),
+        None => LinePut {
             code: 20,
             length: 0,
         },
@@ -144,7 +143,7 @@ pub fn write_call_of_fields(kind: u32, fields: &[u32], out: &mut [u8], at: usize
     ensures out_after { out.new ≡ put_from out.old at (line_of_reading (call_of («kind» ∷ fields.now))) }
 {
     match call_of_fields(kind, fields) {
-        Reading::Read(call) => written_length(write_call(out, at, call)),
-        Reading::NoCall => 0,
+        Some(call) => written_length(write_call(out, at, call)),
+        None => 0,
     }
 }

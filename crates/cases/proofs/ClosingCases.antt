@@ -12,7 +12,6 @@ use Rattle.ticket_set.proofs.Laws.{bit_of_empty}
 use Rattle.model.specs.declared.state.Exchange.{Exchange}
 use Rattle.model.specs.declared.call.Call.{Call}
 use Rattle.model.specs.declared.call.Call.TheVariants.{Settle, Claim}
-use Rattle.model.specs.declared.answer.Answer.TheVariants.{Accepted}
 use Rattle.model.specs.State.{phase, is_closed, is_auction}
 use Rattle.model.specs.Answers.{code_of}
 use Rattle.model.specs.Run.{step_of, after_calls}
@@ -48,7 +47,7 @@ pub auctions_there : map (λ x. is_auction (phase x 1)) (day_over ∷ last_aucti
 unfolding day_orders day_collect last_blocks calls_of after_calls call_computes
 auctions_there = refl
 
-pub settle_there : (step_of day_sold (Settle 1 19)).answer ≡ Accepted 600 300
+pub settle_there : (step_of day_sold (Settle 1 19)).answer ≡ Ok (600, 300)
 unfolding day_orders day_collect after_calls call_computes
 settle_there = refl
 

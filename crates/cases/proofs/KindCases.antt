@@ -7,10 +7,8 @@ use mathlib.Core.Option.{some, none}
 use native.Mathlib.Omega.{arith}
 use Rattle.units.specs.Decimal.{digits}
 use Rattle.model.specs.declared.state.Exchange.{Exchange}
-use Rattle.model.specs.declared.answer.Answer.{Answer}
-use Rattle.model.specs.declared.answer.Answer.TheVariants.{Accepted}
 use Rattle.model.specs.declared.call.Call.TheVariants.{Claim, Leave}
-use Rattle.model.specs.Answers.{refusal_code, answer_line}
+use Rattle.model.specs.Answers.{Answer, refusal_code, answer_line}
 use Rattle.model.specs.Calls.{deposit_of, withdraw_of, order_of, cancel_of, open_of, enter_of, match_of, bid_of, settle_of, claim_of, leave_of}
 use Rattle.model.specs.Run.{step_of}
 use Rattle.model.specs.Kinds.{kinds, numbers_of_call, codes_in}
@@ -69,7 +67,7 @@ call_steps x =
       leave_is = λ k m. refl;
     }
 
-claim_room : (x : Exchange) → (step_of x (Claim 63)).answer ≡ Accepted 4 3 → RoomUsed x
+claim_room : (x : Exchange) → (step_of x (Claim 63)).answer ≡ Ok (4, 3) → RoomUsed x
 unfolding answer_line digits
 claim_room x e =
     record {
@@ -77,7 +75,7 @@ claim_room x e =
       enough = (rooms_first x (claim_request 40 9 63)).enough (subst (λ (a : Answer). length (answer_line 40 a) ≤ 9) (sym e) (omega arith));
     }
 
-leave_room : (x : Exchange) → (step_of x (Leave 0 0)).answer ≡ Accepted 600 0 → LeaveRoomUsed x
+leave_room : (x : Exchange) → (step_of x (Leave 0 0)).answer ≡ Ok (600, 0) → LeaveRoomUsed x
 unfolding answer_line digits
 leave_room x e =
     record {

@@ -13,7 +13,6 @@ use Rattle.model.specs.declared.call.Call.{Call}
 use Rattle.model.specs.declared.call.Call.TheVariants.{Order}
 use Rattle.model.specs.declared.answer.Refusal.{Refusal}
 use Rattle.model.specs.declared.answer.Refusal.TheVariants.{TicketInUse, BufferTooShort, BadOrderList}
-use Rattle.model.specs.declared.answer.Answer.TheVariants.{Accepted, Refused}
 use Rattle.model.specs.declared.answer.Outcome.{Outcome}
 use Rattle.model.specs.declared.orders.OrderFields.{OrderFields}
 use Rattle.model.specs.declared.orders.AnswerPlace.{AnswerPlace}
@@ -62,11 +61,11 @@ pub refused_stays : refused_listed.exchange ≡ funded
 unfolding refused_orders list_computes
 refused_stays = refl
 
-pub full_accepted : full_listed.answer ≡ Accepted 0 0
+pub full_accepted : full_listed.answer ≡ Ok (0, 0)
 unfolding unit_orders list_computes
 full_accepted = refl
 
-pub full_answered : full_listed.answers ≡ replicate 64 (place (Accepted 1 0))
+pub full_answered : full_listed.answers ≡ replicate 64 (place (Ok (1, 0)))
 unfolding unit_orders list_computes
 full_answered = refl
 
@@ -80,7 +79,7 @@ full_ticket = refl
 
 -- ---- lengths
 
-pub code_22 : answer_numbers (Refused BadOrderList) ≡ (22, 0, 0)
+pub code_22 : answer_numbers (Err BadOrderList) ≡ (22, 0, 0)
 code_22 = refl
 
 pub lengths_refused : LengthsRefused
@@ -168,15 +167,15 @@ singly_told : {f : Engine} {x y : Exchange} {os : List OrderFields} {ps qs : Lis
 singly_told {f} {x} {y} {os} e s = subst (λ (l : List AnswerPlace). Singly f x os l y) e s
 
 module _ (e : WholeEngine) (x : Exchange) (k : ListsKeep e x) where
-  one_made : (p : AnswerPlace) → (e.order_list x (one_order ∷ []) (p ∷ [])).answer ≡ Accepted 3 4
-      → (e.order_list x (one_order ∷ []) (p ∷ [])).answers ≡ place (Accepted 5 0) ∷ []
-      → e.request x (one_request 40 9) ≡ outcome (Accepted 5 0) (e.order_list x (one_order ∷ []) (p ∷ [])).exchange
+  one_made : (p : AnswerPlace) → (e.order_list x (one_order ∷ []) (p ∷ [])).answer ≡ Ok (3, 4)
+      → (e.order_list x (one_order ∷ []) (p ∷ [])).answers ≡ place (Ok (5, 0)) ∷ []
+      → e.request x (one_request 40 9) ≡ outcome (Ok (5, 0)) (e.order_list x (one_order ∷ []) (p ∷ [])).exchange
   unfolding history_computes
   one_made p a t = singly_one (singly_told t (k.made_singly _ _ 3 4 a)) 40 9 (omega arith)
 
-  two_made : (p q : AnswerPlace) → (e.order_list x same_again (p ∷ q ∷ [])).answer ≡ Accepted 0 0
-      → (e.order_list x same_again (p ∷ q ∷ [])).answers ≡ place (Accepted 5 0) ∷ place (Refused TicketInUse) ∷ []
-      → e.request (e.request x (one_request 40 9)).exchange (one_request 1 8) ≡ outcome (Refused TicketInUse) (e.order_list x same_again (p ∷ q ∷ [])).exchange
+  two_made : (p q : AnswerPlace) → (e.order_list x same_again (p ∷ q ∷ [])).answer ≡ Ok (0, 0)
+      → (e.order_list x same_again (p ∷ q ∷ [])).answers ≡ place (Ok (5, 0)) ∷ place (Err TicketInUse) ∷ []
+      → e.request (e.request x (one_request 40 9)).exchange (one_request 1 8) ≡ outcome (Err TicketInUse) (e.order_list x same_again (p ∷ q ∷ [])).exchange
   unfolding history_computes
   two_made p q a t =
       let s = singly_first (singly_told t (k.made_singly _ _ 0 0 a)) in
@@ -195,14 +194,14 @@ fixes_lists e x k =
     }
 
 -- a refused list is not accepted, and an accepted one not refused
-not_accepted : {a b : ℕ} → Refused BadOrderList ≡ Accepted a b → ⊥
+not_accepted : {a b : ℕ} → Err BadOrderList ≡ Ok (a, b) → ⊥
 not_accepted e = let z : ◌≡◌ {A = ℕ} 22 0 = ap code_of e in omega (arith, z)
 
-not_refused : {r : Refusal} → Accepted 0 0 ≡ Refused r → ⊥
+not_refused : {r : Refusal} → Ok (0, 0) ≡ Err r → ⊥
 not_refused {r} e = omega (arith, refusal_code_lem r, ap code_of e)
 
 -- what a list of none and of one answers
-up_to_one_leaves : (x : Exchange) (fs : List OrderFields) (ps : List AnswerPlace) (why : Refusal) → (up_to_one x fs ps).answer ≡ Refused why
+up_to_one_leaves : (x : Exchange) (fs : List OrderFields) (ps : List AnswerPlace) (why : Refusal) → (up_to_one x fs ps).answer ≡ Err why
     → ((up_to_one x fs ps).exchange ≡ x) × ((up_to_one x fs ps).answers ≡ ps)
 up_to_one_leaves x [] [] why e = absurd (not_refused e)
 up_to_one_leaves x [] (p ∷ ps) why e = (refl, refl)
@@ -211,7 +210,7 @@ up_to_one_leaves x (f ∷ []) (p ∷ []) why e = absurd (not_refused e)
 up_to_one_leaves x (f ∷ []) (p ∷ q ∷ ps) why e = (refl, refl)
 up_to_one_leaves x (f ∷ g ∷ fs) ps why e = (refl, refl)
 
-up_to_one_answers : (x : Exchange) (fs : List OrderFields) (ps : List AnswerPlace) (a b : ℕ) → (up_to_one x fs ps).answer ≡ Accepted a b
+up_to_one_answers : (x : Exchange) (fs : List OrderFields) (ps : List AnswerPlace) (a b : ℕ) → (up_to_one x fs ps).answer ≡ Ok (a, b)
     → (length (up_to_one x fs ps).answers ≡ length fs) × (length (up_to_one x fs ps).answers ≡ length ps)
 up_to_one_answers x [] [] a b e = (refl, refl)
 up_to_one_answers x [] (p ∷ ps) a b e = absurd (not_accepted e)
@@ -220,13 +219,13 @@ up_to_one_answers x (f ∷ []) (p ∷ []) a b e = (refl, refl)
 up_to_one_answers x (f ∷ []) (p ∷ q ∷ ps) a b e = absurd (not_accepted e)
 up_to_one_answers x (f ∷ g ∷ fs) ps a b e = absurd (not_accepted e)
 
-up_to_one_makes : (x : Exchange) (fs : List OrderFields) (ps : List AnswerPlace) (a b : ℕ) → (up_to_one x fs ps).answer ≡ Accepted a b
+up_to_one_makes : (x : Exchange) (fs : List OrderFields) (ps : List AnswerPlace) (a b : ℕ) → (up_to_one x fs ps).answer ≡ Ok (a, b)
     → Singly seven_eight x fs (up_to_one x fs ps).answers (up_to_one x fs ps).exchange
 up_to_one_makes x [] [] a b e = no_order_left
 up_to_one_makes x [] (p ∷ ps) a b e = absurd (not_accepted e)
 up_to_one_makes x (f ∷ []) [] a b e = absurd (not_accepted e)
 up_to_one_makes x (f ∷ []) (p ∷ []) a b e =
-    next_order (λ line room l. ap (λ (t : Bool). cond t (refuse x BufferTooShort) (accept 7 8 x)) (le-ltb room (length (answer_line line (Accepted 7 8))) l)) no_order_left
+    next_order (λ line room l. ap (λ (t : Bool). cond t (refuse x BufferTooShort) (accept 7 8 x)) (le-ltb room (length (answer_line line (Ok (7, 8)))) l)) no_order_left
 up_to_one_makes x (f ∷ []) (p ∷ q ∷ ps) a b e = absurd (not_accepted e)
 up_to_one_makes x (f ∷ g ∷ fs) ps a b e = absurd (not_accepted e)
 

@@ -7,11 +7,10 @@ use Rattle.model.specs.declared.state.TicketState.TheVariants.{Free, Resting, En
 use Rattle.model.specs.declared.state.Phase.TheVariants.{Closed}
 use Rattle.model.specs.declared.call.Call.{Call}
 use Rattle.model.specs.declared.call.Call.TheVariants.{Deposit, Withdraw, Order, Cancel, Open, Enter, Match, Bid, Settle, Claim, Leave}
-use Rattle.model.specs.declared.answer.Answer.{Answer}
 use Rattle.model.specs.declared.orders.OrderFields.{OrderFields}
 use Rattle.model.specs.declared.orders.AnswerPlace.{AnswerPlace}
 use Rattle.model.specs.State.{balance, supply, residue, last_block, ticket, order_in, phase, round_in, fresh_exchange}
-use Rattle.model.specs.Answers.{code_of, first_of, second_of}
+use Rattle.model.specs.Answers.{Answer, code_of, first_of, second_of}
 use Rattle.model.specs.Kinds.{numbers_of_call, kind_of}
 use Rattle.model.specs.View.{View, view, FreshViewed}
 use Rattle.model.specs.Refusals.{First, Holds, FieldsInOrder, ListCoded, Priced}

@@ -1,13 +1,12 @@
 -- Each clause of the whole-run statement on data that just meet it, and on data one unit off where every other clause of its record holds: what
 -- is refused here rests on that clause alone.
-use Rattle.std.specs.Prelude.{ℕ, [], ◌∷◌}
+use Rattle.std.specs.Prelude.{ℕ, [], ◌∷◌, Ok, Err}
 use Rattle.pricing.specs.declared.Side.{Side}
 use Rattle.pricing.specs.declared.Side.TheVariants.{Buy, Sell}
 use Rattle.model.specs.declared.state.Order.{Order}
 use Rattle.model.specs.declared.state.TicketState.{TicketState}
 use Rattle.model.specs.declared.state.TicketState.TheVariants.{Free, Resting, Entered}
 use Rattle.model.specs.declared.state.Exchange.{Exchange}
-use Rattle.model.specs.declared.answer.Answer.TheVariants.{Accepted, Refused}
 use Rattle.model.specs.declared.answer.Refusal.TheVariants.{WrongPhase}
 use Rattle.model.specs.declared.answer.Outcome.{Outcome}
 use Rattle.model.specs.State.{residue, ticket, fresh_exchange, with_supply, with_residue, with_ticket, with_block, credit}
@@ -253,7 +252,7 @@ abbrev pub PaysFive : Outcome → Type 0
 PaysFive out = PaysOut five_entered 63 five 4 3 out
 
 abbrev pub claim_leaves : Exchange → Outcome
-claim_leaves x = record { answer = Accepted 4 3; exchange = x }
+claim_leaves x = record { answer = Ok (4, 3); exchange = x }
 
 -- an engine that refuses all, and one that changes the last block with it
 abbrev pub refusing : Engine
@@ -277,8 +276,8 @@ pub record ClaimsRefused : Type 0 where
   pub other_offer : SettledIn 3 63 (four_for_three 63 (waiting (terms_on Sell) 6)) → ⊥
   pub was_claimed : SettledIn 3 63 (four_for_three 63 (claimed (terms_on Sell) 5 4 3)) → ⊥
   -- another answer, another rest, another ticket changed
-  pub answered : PaysFive (record { answer = Accepted 4 2; exchange = five_paid }) → ⊥
-  pub refused : PaysFive (record { answer = Refused WrongPhase; exchange = five_paid }) → ⊥
+  pub answered : PaysFive (record { answer = Ok (4, 2); exchange = five_paid }) → ⊥
+  pub refused : PaysFive (record { answer = Err WrongPhase; exchange = five_paid }) → ⊥
   pub rest_more : PaysFive (claim_leaves (with_ticket five_paid 63 (Resting (order 15 3 Sell 1000000 2)))) → ⊥
   pub rest_entered : PaysFive (claim_leaves (with_ticket five_paid 63 (Entered (order 15 3 Sell 1000000 1)))) → ⊥
   pub other_ticket : PaysFive (claim_leaves (with_ticket five_paid 0 (Resting five))) → ⊥

@@ -1,11 +1,10 @@
 -- The closing of a market: the calls in given states, and the statements on it used where they are just met and refused where they are just
 -- missed.
-use Rattle.std.specs.Prelude.{ℕ, ◌≤◌, ◌≡◌, List, [], ◌∷◌, ◌++◌, replicate}
+use Rattle.std.specs.Prelude.{ℕ, ◌≤◌, ◌≡◌, List, [], ◌∷◌, ◌++◌, replicate, Ok}
 use Rattle.model.specs.declared.state.Round.{Round}
 use Rattle.model.specs.declared.state.Phase.TheVariants.{Closed, Auction}
 use Rattle.model.specs.declared.state.Exchange.{Exchange}
 use Rattle.model.specs.declared.call.Call.TheVariants.{Open, Bid, Settle, Claim}
-use Rattle.model.specs.declared.answer.Answer.TheVariants.{Accepted}
 use Rattle.model.specs.State.{phase, round_in, last_block, blank_round, with_tickets, with_phase, fresh_exchange}
 use Rattle.model.specs.Run.{step_of, Reachable, after_calls}
 use Rattle.model.specs.Closing.{AllAccepted, Names, BackToClosed, WindsUp, CanClose, SettleCloses}
@@ -50,7 +49,7 @@ WindsUpAt25 =
 
 -- a settle that was accepted
 abbrev pub ClosesAt19 : Type 0
-ClosesAt19 = (x : Exchange) → Reachable x → (step_of x (Settle 1 19)).answer ≡ Accepted 600 300 → (round_in (phase x 1)).tickets ≡ 3 → Closes x 19
+ClosesAt19 = (x : Exchange) → Reachable x → (step_of x (Settle 1 19)).answer ≡ Ok (600, 300) → (round_in (phase x 1)).tickets ≡ 3 → Closes x 19
 
 -- a block that fits 32 bits is there
 abbrev pub CanCloseAtLast : Type 0

@@ -1,13 +1,12 @@
 -- What the whole-run statement fixes, in numbers: of any engine that gave the answers of the day until its settle, those of the last places
 -- until theirs or to their end, or those of the tickets that left, the readings of the state that the engine left, from the first to the last
 -- token, member, ticket and market.
-use Rattle.std.specs.Prelude.{ℕ, ◌+◌, ◌≡◌, List, [], ◌∷◌, ◌++◌}
+use Rattle.std.specs.Prelude.{ℕ, ◌+◌, ◌≡◌, List, [], ◌∷◌, ◌++◌, Ok, Err}
 use Rattle.pricing.specs.declared.Side.TheVariants.{Buy, Sell}
 use Rattle.model.specs.declared.state.TicketState.TheVariants.{Free, Resting, Entered}
 use Rattle.model.specs.declared.state.Exchange.{Exchange}
 use Rattle.model.specs.declared.call.Call.{Call}
 use Rattle.model.specs.declared.call.Call.TheVariants.{Match, Leave}
-use Rattle.model.specs.declared.answer.Answer.TheVariants.{Accepted, Refused}
 use Rattle.model.specs.declared.answer.Refusal.TheVariants.{WrongPhase, MalformedLine, BufferTooShort}
 use Rattle.model.specs.declared.answer.Outcome.{Outcome}
 use Rattle.model.specs.State.{balance, supply, residue, ticket, order_in}
@@ -23,8 +22,8 @@ use Rattle.cases.specs.KindCases.{claim_request}
 -- the answers of a script as events; history does not look at the code of a refused one
 unfoldable pub told : List Line → List Event
 told [] = []
-told (accepted c a b ∷ ls) = record { call = c; answer = Accepted a b } ∷ told ls
-told (refused c n ∷ ls) = record { call = c; answer = Refused MalformedLine } ∷ told ls
+told (accepted c a b ∷ ls) = record { call = c; answer = Ok (a, b) } ∷ told ls
+told (refused c n ∷ ls) = record { call = c; answer = Err MalformedLine } ∷ told ls
 told (balance_is m t n ∷ ls) = told ls
 told (supply_is t n ∷ ls) = told ls
 told (residue_is t n ∷ ls) = told ls
@@ -35,7 +34,7 @@ told_settled = history_of (told (last_places_ended ++ last_places_settled))
 
 -- the claim of ticket 63, with the 9 bytes of "40,0,4,3" and its end byte: s 4 and got 3, the rest of 1 stays, and nothing else moves
 pub record LastPaid (x : Exchange) (out : Outcome) : Type 0 where
-  pub answered : out.answer ≡ Accepted 4 3
+  pub answered : out.answer ≡ Ok (4, 3)
   pub ticket_63 : ticket out.exchange 63 ≡ Resting (order 15 3 Sell 1000000 1)
   pub ticket_62 : ticket out.exchange 62 ≡ Resting (order 15 3 Buy 2500000 33)
   pub ticket_2 : ticket out.exchange 2 ≡ Entered (order 14 3 Buy 1000000 3)
@@ -48,7 +47,7 @@ pub record LastPaid (x : Exchange) (out : Outcome) : Type 0 where
 
 -- the claim of ticket 2, which leaves nothing, with the 8 bytes of "7,0,3,3" and its end byte
 pub record FullPaid (out : Outcome) : Type 0 where
-  pub answered : out.answer ≡ Accepted 3 3
+  pub answered : out.answer ≡ Ok (3, 3)
   pub ticket_2 : ticket out.exchange 2 ≡ Free
   pub ticket_63 : ticket out.exchange 63 ≡ Entered (order 15 3 Sell 1000000 5)
   pub buyer_0 : balance out.exchange 14 0 ≡ 193
@@ -77,8 +76,8 @@ pub record SettledFixed (f : Engine) (x : Exchange) : Type 0 where
   pub ticket_63 : ticket x 63 ≡ Entered (order 15 3 Sell 1000000 5)
   pub order_63 : order_in (ticket x 63) ≡ order 15 3 Sell 1000000 5
   -- a refusal leaves all of it, 21 and any other
-  pub short_stays : (f x (claim_request 40 8 63)).answer ≡ Refused BufferTooShort → (f x (claim_request 40 8 63)).exchange ≡ x
-  pub refused_stays : (f x (claim_request 40 80 1)).answer ≡ Refused WrongPhase → (f x (claim_request 40 80 1)).exchange ≡ x
+  pub short_stays : (f x (claim_request 40 8 63)).answer ≡ Err BufferTooShort → (f x (claim_request 40 8 63)).exchange ≡ x
+  pub refused_stays : (f x (claim_request 40 80 1)).answer ≡ Err WrongPhase → (f x (claim_request 40 80 1)).exchange ≡ x
   pub last_paid : LastPaid x (f x (claim_request 40 9 63))
   pub full_paid : FullPaid (f x (claim_request 7 8 2))
 
@@ -136,7 +135,7 @@ FixesLate =
 unfoldable pub answered : List Call → List (ℕ × ℕ × ℕ) → List Event
 answered [] ns = []
 answered (c ∷ cs) [] = []
-answered (c ∷ cs) (n ∷ ns) = record { call = c; answer = Accepted n.1 n.2 } ∷ answered cs ns
+answered (c ∷ cs) (n ∷ ns) = record { call = c; answer = Ok (n.1, n.2) } ∷ answered cs ns
 
 -- lines 1 to 11, which are all accepted
 abbrev pub told_day : History
@@ -144,7 +143,7 @@ told_day = history_of (answered until_settle printed)
 
 -- the first ticket, member and market: line 12, with the 13 bytes of "12,0,600,240" and its end byte
 pub record FirstPaid (out : Outcome) : Type 0 where
-  pub answered : out.answer ≡ Accepted 600 240
+  pub answered : out.answer ≡ Ok (600, 240)
   pub ticket_0 : ticket out.exchange 0 ≡ Free
   pub ticket_1 : ticket out.exchange 1 ≡ Entered (order 1 1 Sell 2000000 300)
   pub buyer_0 : balance out.exchange 0 0 ≡ 400

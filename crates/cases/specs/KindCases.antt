@@ -1,15 +1,13 @@
 -- Kinds, fields, codes and answers in numbers: a call of each kind whose fields are all different, the codes that it tests, and the number of
 -- every refusal.
-use Rattle.std.specs.Prelude.{ℕ, zero, suc, ◌+◌, ◌-◌, ◌≡◌, List, [], ◌∷◌, map}
+use Rattle.std.specs.Prelude.{ℕ, zero, suc, ◌+◌, ◌-◌, ◌≡◌, List, [], ◌∷◌, map, Ok, Err, Option}
 use Rattle.std.proofs.Math.Option.{Option}
 use Rattle.units.specs.Decide.{Test}
 use Rattle.model.specs.declared.state.Exchange.{Exchange}
 use Rattle.model.specs.declared.call.Call.{Call}
 use Rattle.model.specs.declared.call.Call.TheVariants.{Deposit, Withdraw, Order, Cancel, Open, Enter, Match, Bid, Settle, Claim, Leave}
 use Rattle.model.specs.declared.answer.Refusal.{Refusal}
-use Rattle.model.specs.declared.answer.Answer.{Answer}
-use Rattle.model.specs.declared.answer.Answer.TheVariants.{Accepted, Refused}
-use Rattle.model.specs.Answers.{refusal_code, code_of, first_of, second_of}
+use Rattle.model.specs.Answers.{Answer, refusal_code, code_of, first_of, second_of}
 use Rattle.model.specs.Calls.{deposit_of, withdraw_of, order_of, cancel_of, open_of, enter_of, match_of, bid_of, settle_of, claim_of, leave_of, tests_of, done_of, refuse}
 use Rattle.model.specs.Run.{step_of, Request, request_of}
 use Rattle.model.specs.Kinds.{Kind, from_fields}
@@ -115,8 +113,8 @@ pub record LeaveRoomUsed (x : Exchange) : Type 0 where
   pub enough : request_of x (leave_request 17 11 0 0) ≡ step_of x (Leave 0 0)
 
 pub record RoomsUsed (x : Exchange) : Type 0 where
-  pub claim : (step_of x (Claim 63)).answer ≡ Accepted 4 3 → RoomUsed x
-  pub leave : (step_of x (Leave 0 0)).answer ≡ Accepted 600 0 → LeaveRoomUsed x
+  pub claim : (step_of x (Claim 63)).answer ≡ Ok (4, 3) → RoomUsed x
+  pub leave : (step_of x (Leave 0 0)).answer ≡ Ok (600, 0) → LeaveRoomUsed x
 
 -- ---- answers
 
@@ -152,7 +150,7 @@ abbrev pub answer_numbers : Answer → ℕ × ℕ × ℕ
 answer_numbers a = (code_of a, first_of a, second_of a)
 
 unfoldable pub answers : List Answer
-answers = Accepted 7 8 ∷ Refused Refusal.MalformedLine ∷ Refused Refusal.BufferTooShort ∷ []
+answers = Ok (7, 8) ∷ Err Refusal.MalformedLine ∷ Err Refusal.BufferTooShort ∷ []
 
 unfoldable pub answer_texts : List (List ℕ)
 answer_texts =

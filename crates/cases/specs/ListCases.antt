@@ -1,6 +1,6 @@
 -- Document 02, L5, a morning's orders at once: lists of orders with answers worked by hand from the page, wrong pairs of lengths at every border, and what a
 -- list tells a whole run.
-use Rattle.std.specs.Prelude.{ℕ, zero, suc, ◌+◌, ◌≡◌, List, [], ◌∷◌, ◌++◌, map, length, drop, replicate}
+use Rattle.std.specs.Prelude.{ℕ, zero, suc, ◌+◌, ◌≡◌, List, [], ◌∷◌, ◌++◌, map, length, drop, replicate, Ok, Err}
 use Rattle.pricing.specs.declared.Side.TheVariants.{Buy, Sell}
 use Rattle.model.specs.declared.state.TicketState.{TicketState}
 use Rattle.model.specs.declared.state.TicketState.TheVariants.{Free, Resting, Entered}
@@ -8,8 +8,7 @@ use Rattle.model.specs.declared.state.Exchange.{Exchange}
 use Rattle.model.specs.declared.call.Call.{Call}
 use Rattle.model.specs.declared.call.Call.TheVariants.{Deposit, Withdraw, Order, Cancel, Open, Enter}
 use Rattle.model.specs.declared.answer.Refusal.TheVariants.{NoSuchMember, NoSuchMarket, BadAmountOrLimit, TicketInUse, InsufficientBalance, BufferTooShort, BadOrderList}
-use Rattle.model.specs.declared.answer.Answer.{Answer}
-use Rattle.model.specs.declared.answer.Answer.TheVariants.{Accepted, Refused}
+use Rattle.model.specs.Answers.{Answer}
 use Rattle.model.specs.declared.answer.Outcome.{Outcome}
 use Rattle.model.specs.declared.orders.OrderFields.{OrderFields}
 use Rattle.model.specs.declared.orders.AnswerPlace.{AnswerPlace}
@@ -37,7 +36,7 @@ place a = record { answer = a }
 
 -- what every place holds before the call
 abbrev pub held : AnswerPlace
-held = place (Accepted 7 8)
+held = place (Ok (7, 8))
 
 abbrev pub place_numbers : AnswerPlace → ℕ × ℕ × ℕ
 place_numbers p = answer_numbers p.answer
@@ -126,11 +125,11 @@ full_listed = orders_of (after_calls fresh_exchange (Deposit 15 0 64 ∷ [])) (u
 abbrev pub RefusedWhole : (n m : ℕ) → Type 0
 RefusedWhole n m =
     (x : Exchange) (f : OrderFields) (p : AnswerPlace)
-    → orders_of x (replicate n f) (replicate m p) ≡ record { answer = Refused BadOrderList; answers = replicate m p; exchange = x }
+    → orders_of x (replicate n f) (replicate m p) ≡ record { answer = Err BadOrderList; answers = replicate m p; exchange = x }
 
 -- "The call's own answer is 0 .. with two zeros", whatever became of its orders
 abbrev pub AcceptedWhole : ℕ → Type 0
-AcceptedWhole n = (x : Exchange) (f : OrderFields) (p : AnswerPlace) → (orders_of x (replicate n f) (replicate n p)).answer ≡ Accepted 0 0
+AcceptedWhole n = (x : Exchange) (f : OrderFields) (p : AnswerPlace) → (orders_of x (replicate n f) (replicate n p)).answer ≡ Ok (0, 0)
 
 -- "when the lists differ in length or have more than 64 places"
 pub record LengthsRefused : Type 0 where
@@ -157,7 +156,7 @@ pub record LengthsRefused : Type 0 where
 
 pub record LengthsAccepted : Type 0 where
   -- nothing is asked and nothing moves
-  pub none : (x : Exchange) → orders_of x [] [] ≡ record { answer = Accepted 0 0; answers = []; exchange = x }
+  pub none : (x : Exchange) → orders_of x [] [] ≡ record { answer = Ok (0, 0); answers = []; exchange = x }
   pub orders_1 : AcceptedWhole 1
   pub orders_2 : AcceptedWhole 2
   pub orders_32 : AcceptedWhole 32
@@ -172,15 +171,15 @@ event c a = record { call = c; answer = a }
 -- of the nine
 unfoldable pub nine_told : List Event
 nine_told =
-    event (Order 0 0 1 0 3000000 4) (Accepted 4 0)
-    ∷ event (Order 0 1 1 1 1 2) (Refused TicketInUse)
-    ∷ event (Order 1 1 1 1 1 5) (Accepted 5 0)
-    ∷ event (Order 2 1 1 1 1 1) (Refused InsufficientBalance)
-    ∷ event (Order 64 16 0 2 0 0) (Refused NoSuchMember)
-    ∷ event (Order 64 0 4 2 0 0) (Refused NoSuchMarket)
-    ∷ event (Order 3 0 1 0 2000000001 1) (Refused BadAmountOrLimit)
-    ∷ event (Order 3 0 1 0 2000000000 6) (Accepted 6 0)
-    ∷ event (Order 4 0 1 0 1 1) (Refused InsufficientBalance)
+    event (Order 0 0 1 0 3000000 4) (Ok (4, 0))
+    ∷ event (Order 0 1 1 1 1 2) (Err TicketInUse)
+    ∷ event (Order 1 1 1 1 1 5) (Ok (5, 0))
+    ∷ event (Order 2 1 1 1 1 1) (Err InsufficientBalance)
+    ∷ event (Order 64 16 0 2 0 0) (Err NoSuchMember)
+    ∷ event (Order 64 0 4 2 0 0) (Err NoSuchMarket)
+    ∷ event (Order 3 0 1 0 2000000001 1) (Err BadAmountOrLimit)
+    ∷ event (Order 3 0 1 0 2000000000 6) (Ok (6, 0))
+    ∷ event (Order 4 0 1 0 1 1) (Err InsufficientBalance)
     ∷ []
 
 -- n orders and m places that tell nothing and leave the state
@@ -221,17 +220,17 @@ mixed_run =
 
 unfoldable pub mixed_told : List Event
 mixed_told =
-    event (Deposit 0 0 10) (Accepted 10 0)
-    ∷ event (Deposit 1 1 5) (Accepted 5 0)
+    event (Deposit 0 0 10) (Ok (10, 0))
+    ∷ event (Deposit 1 1 5) (Ok (5, 0))
     ∷ (nine_told
-    ++ (event (Cancel 1 1) (Accepted 5 0)
-    ∷ event (Withdraw 1 1 2) (Accepted 3 0)
-    ∷ event (Withdraw 1 1 2) (Refused BufferTooShort)
+    ++ (event (Cancel 1 1) (Ok (5, 0))
+    ∷ event (Withdraw 1 1 2) (Ok (3, 0))
+    ∷ event (Withdraw 1 1 2) (Err BufferTooShort)
     -- hi 2,500,000 × 1.1, lo 2,500,000 × 0.9
-    ∷ event (Open 1 10 2500000 100000 10) (Accepted 2750000 2250000)
-    ∷ event (Enter 0) (Accepted 4 0)
-    ∷ event (Order 0 1 1 1 1 2) (Refused TicketInUse)
-    ∷ event (Order 1 1 1 1 1 2) (Accepted 2 0)
+    ∷ event (Open 1 10 2500000 100000 10) (Ok (2750000, 2250000))
+    ∷ event (Enter 0) (Ok (4, 0))
+    ∷ event (Order 0 1 1 1 1 2) (Err TicketInUse)
+    ∷ event (Order 1 1 1 1 1 2) (Ok (2, 0))
     ∷ []))
 
 -- a run read off its state and off its answers
@@ -297,28 +296,28 @@ same_again = one_order ∷ one_order ∷ []
 -- of any engine, in any state: a refused list with one place, and accepted ones, whatever numbers they are answered with
 pub record ListsFixed (e : WholeEngine) (x : Exchange) : Type 0 where
   pub state_stays :
-      (f : OrderFields) (p : AnswerPlace) → (e.order_list x (f ∷ []) (p ∷ [])).answer ≡ Refused BadOrderList → (e.order_list x (f ∷ []) (p ∷ [])).exchange ≡ x
+      (f : OrderFields) (p : AnswerPlace) → (e.order_list x (f ∷ []) (p ∷ [])).answer ≡ Err BadOrderList → (e.order_list x (f ∷ []) (p ∷ [])).exchange ≡ x
   pub places_stay :
-      (f : OrderFields) (p : AnswerPlace) → (e.order_list x (f ∷ []) (p ∷ [])).answer ≡ Refused BadOrderList
+      (f : OrderFields) (p : AnswerPlace) → (e.order_list x (f ∷ []) (p ∷ [])).answer ≡ Err BadOrderList
       → (e.order_list x (f ∷ []) (p ∷ [])).answers ≡ p ∷ []
   pub two_answered :
-      (f h : OrderFields) (p q : AnswerPlace) → (e.order_list x (f ∷ h ∷ []) (p ∷ q ∷ [])).answer ≡ Accepted 3 4
+      (f h : OrderFields) (p q : AnswerPlace) → (e.order_list x (f ∷ h ∷ []) (p ∷ q ∷ [])).answer ≡ Ok (3, 4)
       → length (e.order_list x (f ∷ h ∷ []) (p ∷ q ∷ [])).answers ≡ 2
   -- without as many places as orders none is accepted
-  pub placeless : (f : OrderFields) → (e.order_list x (f ∷ []) []).answer ≡ Accepted 3 4 → ⊥
+  pub placeless : (f : OrderFields) → (e.order_list x (f ∷ []) []).answer ≡ Ok (3, 4) → ⊥
   -- an order on line 40 with 9 bytes gets the answer in its place, and leaves the state that the list left
   pub one_made :
-      (p : AnswerPlace) → (e.order_list x (one_order ∷ []) (p ∷ [])).answer ≡ Accepted 3 4
-      → (e.order_list x (one_order ∷ []) (p ∷ [])).answers ≡ place (Accepted 5 0) ∷ []
-      → e.request x (one_request 40 9) ≡ outcome (Accepted 5 0) (e.order_list x (one_order ∷ []) (p ∷ [])).exchange
+      (p : AnswerPlace) → (e.order_list x (one_order ∷ []) (p ∷ [])).answer ≡ Ok (3, 4)
+      → (e.order_list x (one_order ∷ []) (p ∷ [])).answers ≡ place (Ok (5, 0)) ∷ []
+      → e.request x (one_request 40 9) ≡ outcome (Ok (5, 0)) (e.order_list x (one_order ∷ []) (p ∷ [])).exchange
   -- the second of two is made in the state that the first one left
   pub two_made :
-      (p q : AnswerPlace) → (e.order_list x same_again (p ∷ q ∷ [])).answer ≡ Accepted 0 0
-      → (e.order_list x same_again (p ∷ q ∷ [])).answers ≡ place (Accepted 5 0) ∷ place (Refused TicketInUse) ∷ []
+      (p q : AnswerPlace) → (e.order_list x same_again (p ∷ q ∷ [])).answer ≡ Ok (0, 0)
+      → (e.order_list x same_again (p ∷ q ∷ [])).answers ≡ place (Ok (5, 0)) ∷ place (Err TicketInUse) ∷ []
       → e.request (e.request x (one_request 40 9)).exchange (one_request 1 8)
-      ≡ outcome (Refused TicketInUse) (e.order_list x same_again (p ∷ q ∷ [])).exchange
+      ≡ outcome (Err TicketInUse) (e.order_list x same_again (p ∷ q ∷ [])).exchange
   -- no order leaves the state
-  pub none_made : (e.order_list x [] []).answer ≡ Accepted 0 0 → (e.order_list x [] []).exchange ≡ x
+  pub none_made : (e.order_list x [] []).answer ≡ Ok (0, 0) → (e.order_list x [] []).exchange ≡ x
 
 abbrev pub FixesLists : Type 0
 FixesLists = (e : WholeEngine) (x : Exchange) → ListsKeep e x → ListsFixed e x
@@ -329,36 +328,36 @@ house_with g = record { request = request_of; order_list = g }
 
 -- engines that refuse every list: one leaves all, the others clear the places, write into the first one, credit a unit
 abbrev pub refusing_lists : ListEngine
-refusing_lists x fs ps = listed (Refused BadOrderList) ps x
+refusing_lists x fs ps = listed (Err BadOrderList) ps x
 
 abbrev pub clearing : ListEngine
-clearing x fs ps = listed (Refused BadOrderList) [] x
+clearing x fs ps = listed (Err BadOrderList) [] x
 
 abbrev pub writing : ListEngine
-writing x fs [] = listed (Refused BadOrderList) [] x
-writing x fs (p ∷ ps) = listed (Refused BadOrderList) (place (Refused BadOrderList) ∷ ps) x
+writing x fs [] = listed (Err BadOrderList) [] x
+writing x fs (p ∷ ps) = listed (Err BadOrderList) (place (Err BadOrderList) ∷ ps) x
 
 abbrev pub crediting : ListEngine
-crediting x fs ps = listed (Refused BadOrderList) ps (credit x 0 0 1)
+crediting x fs ps = listed (Err BadOrderList) ps (credit x 0 0 1)
 
 -- an engine that answers 7 and 8 to every request that has room, and moves nothing; and to lists of none and of one likewise
 abbrev pub seven_eight : Engine
 seven_eight x q = fitted x q.line q.room (accept 7 8 x)
 
 abbrev pub up_to_one : ListEngine
-up_to_one x [] [] = listed (Accepted 0 0) [] x
-up_to_one x [] (p ∷ ps) = listed (Refused BadOrderList) (p ∷ ps) x
-up_to_one x (f ∷ []) [] = listed (Refused BadOrderList) [] x
-up_to_one x (f ∷ []) (p ∷ []) = listed (Accepted 0 0) (held ∷ []) x
-up_to_one x (f ∷ []) (p ∷ q ∷ ps) = listed (Refused BadOrderList) (p ∷ q ∷ ps) x
-up_to_one x (f ∷ g ∷ fs) ps = listed (Refused BadOrderList) ps x
+up_to_one x [] [] = listed (Ok (0, 0)) [] x
+up_to_one x [] (p ∷ ps) = listed (Err BadOrderList) (p ∷ ps) x
+up_to_one x (f ∷ []) [] = listed (Err BadOrderList) [] x
+up_to_one x (f ∷ []) (p ∷ []) = listed (Ok (0, 0)) (held ∷ []) x
+up_to_one x (f ∷ []) (p ∷ q ∷ ps) = listed (Err BadOrderList) (p ∷ q ∷ ps) x
+up_to_one x (f ∷ g ∷ fs) ps = listed (Err BadOrderList) ps x
 
 -- its requests, and lists that are all accepted with these answers and this state
 abbrev pub seven_eight_with : ListEngine → WholeEngine
 seven_eight_with g = record { request = seven_eight; order_list = g }
 
 abbrev pub answering : (List OrderFields → List AnswerPlace) → (Exchange → Exchange) → WholeEngine
-answering a s = seven_eight_with (λ x fs ps. listed (Accepted 0 0) (a fs) (s x))
+answering a s = seven_eight_with (λ x fs ps. listed (Ok (0, 0)) (a fs) (s x))
 
 abbrev pub each_held : List OrderFields → List AnswerPlace
 each_held fs = map (λ f. held) fs
@@ -378,13 +377,13 @@ pub record ListsRefused : Type 0 where
   pub more : (x : Exchange) → ListsKeep (answering (λ fs. held ∷ each_held fs) (λ y. y)) x → ⊥
   pub placeless : (x : Exchange) → ListsKeep (answering each_held (λ y. y)) x → ⊥
   -- other answers than to the requests, another state than they leave
-  pub other_answer : (x : Exchange) → ListsKeep (answering (λ fs. map (λ f. place (Accepted 7 9)) fs) (λ y. y)) x → ⊥
+  pub other_answer : (x : Exchange) → ListsKeep (answering (λ fs. map (λ f. place (Ok (7, 9))) fs) (λ y. y)) x → ⊥
   pub other_state : ListsKeep (answering each_held (λ y. credit y 0 0 1)) fresh_exchange → ⊥
 
 -- orders made singly by requests: two of them, and none
 pub record SinglyMet : Type 0 where
   pub none : (f : Engine) (x : Exchange) → Singly f x [] [] x
-  pub two : Singly request_of funded (fields 0 0 1 0 3000000 4 ∷ fields 0 1 1 1 1 2 ∷ []) (place (Accepted 4 0) ∷ place (Refused TicketInUse) ∷ []) four_placed
+  pub two : Singly request_of funded (fields 0 0 1 0 3000000 4 ∷ fields 0 1 1 1 1 2 ∷ []) (place (Ok (4, 0)) ∷ place (Err TicketInUse) ∷ []) four_placed
 
 pub record SinglyRefused : Type 0 where
   -- an order without its answer, an answer without its order, a state without an order
@@ -392,34 +391,34 @@ pub record SinglyRefused : Type 0 where
   pub answer_more : (f : Engine) (x y : Exchange) (p : AnswerPlace) → Singly f x [] (p ∷ []) y → ⊥
   pub none_moved : (f : Engine) → Singly f fresh_exchange [] [] one_moved → ⊥
   -- a unit less in the answer, the state before it, the second answer in the first place
-  pub answer : (y : Exchange) → Singly request_of funded (fields 0 0 1 0 3000000 4 ∷ []) (place (Accepted 3 0) ∷ []) y → ⊥
-  pub state : Singly request_of funded (fields 0 0 1 0 3000000 4 ∷ []) (place (Accepted 4 0) ∷ []) funded → ⊥
+  pub answer : (y : Exchange) → Singly request_of funded (fields 0 0 1 0 3000000 4 ∷ []) (place (Ok (3, 0)) ∷ []) y → ⊥
+  pub state : Singly request_of funded (fields 0 0 1 0 3000000 4 ∷ []) (place (Ok (4, 0)) ∷ []) funded → ⊥
   pub order :
       (y : Exchange)
-      → Singly request_of funded (fields 0 0 1 0 3000000 4 ∷ fields 0 1 1 1 1 2 ∷ []) (place (Refused TicketInUse) ∷ place (Accepted 4 0) ∷ []) y → ⊥
+      → Singly request_of funded (fields 0 0 1 0 3000000 4 ∷ fields 0 1 1 1 1 2 ∷ []) (place (Err TicketInUse) ∷ place (Ok (4, 0)) ∷ []) y → ⊥
   -- the second order in the first one's state: member 1's 2 would be placed
   pub first_state :
       (y : Exchange)
-      → Singly request_of funded (fields 0 0 1 0 3000000 4 ∷ fields 0 1 1 1 1 2 ∷ []) (place (Accepted 4 0) ∷ place (Accepted 2 0) ∷ []) y → ⊥
+      → Singly request_of funded (fields 0 0 1 0 3000000 4 ∷ fields 0 1 1 1 1 2 ∷ []) (place (Ok (4, 0)) ∷ place (Ok (2, 0)) ∷ []) y → ⊥
 
 -- ---- engines of the whole house
 
 -- the orders are placed, and each is told as refused
 abbrev pub hiding : ListEngine
-hiding x fs ps = listed (Accepted 0 0) (map (λ f. place (Refused InsufficientBalance)) fs) (orders_of x fs ps).exchange
+hiding x fs ps = listed (Ok (0, 0)) (map (λ f. place (Err InsufficientBalance)) fs) (orders_of x fs ps).exchange
 
 -- they are placed, and the list is refused
 abbrev pub denying : ListEngine
-denying x fs ps = listed (Refused BadOrderList) ps (orders_of x fs ps).exchange
+denying x fs ps = listed (Err BadOrderList) ps (orders_of x fs ps).exchange
 
 -- they are told as placed, and nothing moves
 abbrev pub promising : ListEngine
-promising x fs ps = listed (Accepted 0 0) (orders_of x fs ps).answers x
+promising x fs ps = listed (Ok (0, 0)) (orders_of x fs ps).answers x
 
 -- they are placed on the tickets after those that are told
 abbrev pub misplacing : ListEngine
 misplacing x fs ps =
-    listed (Accepted 0 0) (orders_of x fs ps).answers
+    listed (Ok (0, 0)) (orders_of x fs ps).answers
     (orders_of x (map (λ (f : OrderFields). fields (suc f.ticket) f.member f.market f.side f.limit f.amount) fs) ps).exchange
 
 -- a deposit of 10, and an order of 4 in a list
@@ -446,22 +445,22 @@ pub record EmptyUsed : Type 0 where
   pub place_stays : (x : Exchange) (p : AnswerPlace) → (orders_of x [] (p ∷ [])).answers ≡ p ∷ []
 
 abbrev pub NothingMet : Type 0
-NothingMet = NothingChanges fresh_exchange (held ∷ []) (listed (Refused BadOrderList) (held ∷ []) fresh_exchange)
+NothingMet = NothingChanges fresh_exchange (held ∷ []) (listed (Err BadOrderList) (held ∷ []) fresh_exchange)
 
 pub record NothingRefused : Type 0 where
-  pub state : NothingChanges fresh_exchange (held ∷ []) (listed (Refused BadOrderList) (held ∷ []) one_moved) → ⊥
-  pub place_cleared : NothingChanges fresh_exchange (held ∷ []) (listed (Refused BadOrderList) [] fresh_exchange) → ⊥
+  pub state : NothingChanges fresh_exchange (held ∷ []) (listed (Err BadOrderList) (held ∷ []) one_moved) → ⊥
+  pub place_cleared : NothingChanges fresh_exchange (held ∷ []) (listed (Err BadOrderList) [] fresh_exchange) → ⊥
 
 abbrev pub OneUsed : Type 0
 OneUsed =
     (x : Exchange)
-    → orders_of x (one_order ∷ []) (held ∷ []) ≡ listed (Accepted 0 0) (place (step_of x (Order 3 1 2 1 40 5)).answer ∷ []) (step_of x (Order 3 1 2 1 40 5)).exchange
+    → orders_of x (one_order ∷ []) (held ∷ []) ≡ listed (Ok (0, 0)) (place (step_of x (Order 3 1 2 1 40 5)).answer ∷ []) (step_of x (Order 3 1 2 1 40 5)).exchange
 
 -- the same state, the same answers, and all three accepted
 pub record CutTold (whole first second : Listed) : Type 0 where
   pub state : whole.exchange ≡ second.exchange
   pub answers : whole.answers ≡ first.answers ++ second.answers
-  pub accepted : (whole.answer ≡ Accepted 0 0) × (first.answer ≡ Accepted 0 0) × (second.answer ≡ Accepted 0 0)
+  pub accepted : (whole.answer ≡ Ok (0, 0)) × (first.answer ≡ Ok (0, 0)) × (second.answer ≡ Ok (0, 0))
 
 -- 2 + 1 orders; 63 + 1 and 1 + 63 of them
 pub record CutUsed : Type 0 where
@@ -480,30 +479,30 @@ pub record CutUsed : Type 0 where
 
 -- a list of two orders, accepted and refused, and the lists of each
 abbrev pub taken : AnswerPlace
-taken = place (Accepted 5 0)
+taken = place (Ok (5, 0))
 
 abbrev pub turned : AnswerPlace
-turned = place (Refused TicketInUse)
+turned = place (Err TicketInUse)
 
 abbrev pub CutIn : Listed → Type 0
-CutIn whole = CutAlike whole (listed (Accepted 0 0) (taken ∷ []) fresh_exchange) (listed (Accepted 0 0) (turned ∷ []) one_moved)
+CutIn whole = CutAlike whole (listed (Ok (0, 0)) (taken ∷ []) fresh_exchange) (listed (Ok (0, 0)) (turned ∷ []) one_moved)
 
 -- these three answers to the whole, its first and its second part
 abbrev pub CutAnswered : (whole first second : Answer) → Type 0
 CutAnswered a b c = CutAlike (listed a (taken ∷ turned ∷ []) one_moved) (listed b (taken ∷ []) fresh_exchange) (listed c (turned ∷ []) one_moved)
 
 abbrev pub CutsMet : Type 0
-CutsMet = CutIn (listed (Accepted 0 0) (taken ∷ turned ∷ []) one_moved)
+CutsMet = CutIn (listed (Ok (0, 0)) (taken ∷ turned ∷ []) one_moved)
 
 pub record CutsRefused : Type 0 where
   -- the state after the first part, the answers the other way round, one left out
-  pub state : CutIn (listed (Accepted 0 0) (taken ∷ turned ∷ []) fresh_exchange) → ⊥
-  pub turned_first : CutIn (listed (Accepted 0 0) (turned ∷ taken ∷ []) one_moved) → ⊥
-  pub left_out : CutIn (listed (Accepted 0 0) (taken ∷ []) one_moved) → ⊥
+  pub state : CutIn (listed (Ok (0, 0)) (taken ∷ turned ∷ []) fresh_exchange) → ⊥
+  pub turned_first : CutIn (listed (Ok (0, 0)) (turned ∷ taken ∷ []) one_moved) → ⊥
+  pub left_out : CutIn (listed (Ok (0, 0)) (taken ∷ []) one_moved) → ⊥
   -- other answers than 0 with two zeros
-  pub whole_refused : CutAnswered (Refused BadOrderList) (Accepted 0 0) (Accepted 0 0) → ⊥
-  pub first_refused : CutAnswered (Accepted 0 0) (Refused BadOrderList) (Accepted 0 0) → ⊥
-  pub second_refused : CutAnswered (Accepted 0 0) (Accepted 0 0) (Refused BadOrderList) → ⊥
+  pub whole_refused : CutAnswered (Err BadOrderList) (Ok (0, 0)) (Ok (0, 0)) → ⊥
+  pub first_refused : CutAnswered (Ok (0, 0)) (Err BadOrderList) (Ok (0, 0)) → ⊥
+  pub second_refused : CutAnswered (Ok (0, 0)) (Ok (0, 0)) (Err BadOrderList) → ⊥
 
 -- two lists one after the other from the fresh state; the run with lists, and any state that a call leaves
 pub record ReachUsed : Type 0 where
@@ -522,5 +521,5 @@ SpelledUsed =
 
 -- a deposit spelled out as nothing, or with what it leaves forgotten
 pub record SpelledRefused : Type 0 where
-  pub untold : (x : Exchange) → (p : SpelledOut x (event (Deposit 0 0 10) (Accepted 10 0) ∷ []) x) → p.requests ≡ [] → ⊥
+  pub untold : (x : Exchange) → (p : SpelledOut x (event (Deposit 0 0 10) (Ok (10, 0)) ∷ []) x) → p.requests ≡ [] → ⊥
   pub unmoved : (p : SpelledOut fresh_exchange [] (credit fresh_exchange 0 0 10)) → p.requests ≡ [] → ⊥

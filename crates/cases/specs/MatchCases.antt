@@ -1,11 +1,10 @@
 -- What an accepted match answers: the statement used in any state, met in given rounds, and refused one unit off.
-use Rattle.std.specs.Prelude.{ℕ, ◌+◌, ◌*◌, ◌≤◌, ◌<◌, ◌≡◌}
+use Rattle.std.specs.Prelude.{ℕ, ◌+◌, ◌*◌, ◌≤◌, ◌<◌, ◌≡◌, Ok}
 use Rattle.units.specs.Counts.{amount, price}
 use Rattle.model.specs.declared.state.Exchange.{Exchange}
 use Rattle.model.specs.declared.state.Round.{Round}
 use Rattle.model.specs.declared.state.Phase.TheVariants.{Collect}
 use Rattle.model.specs.declared.call.Call.TheVariants.{Match}
-use Rattle.model.specs.declared.answer.Answer.TheVariants.{Accepted}
 use Rattle.model.specs.State.{opened_between, phase, round_in, with_sides}
 use Rattle.model.specs.Calls.{opened_round, trade_of}
 use Rattle.model.specs.Run.{step_of, Reachable}
@@ -30,7 +29,7 @@ offered = offered_at 2100000 100000
 
 -- of a match of 7 base for 5 quote
 abbrev pub Traded : (Round → Type 0) → Type 0
-Traded K = MatchesTell → (x : Exchange) → Reachable x → (step_of x (Match 2 9)).answer ≡ Accepted 7 5 → K (round_in (phase x 2))
+Traded K = MatchesTell → (x : Exchange) → Reachable x → (step_of x (Match 2 9)).answer ≡ Ok (7, 5) → K (round_in (phase x 2))
 
 pub record MatchUsed : Type 0 where
   pub base_fits : Traded (λ r. 7 ≤ r.sells.total.0)
@@ -44,7 +43,7 @@ pub record MatchUsed : Type 0 where
   pub alone : MatchAlone → (r : Round) → RoundBounds r → MatchTells r 7 5 → ((trade_of r).base.0 ≡ 7) × ((trade_of r).quote.0 ≡ 5)
   -- a match of nothing, where one base could be traded: no quote keeps both bounds, not even 0
   pub dropped :
-      MatchesTell → (x : Exchange) → Reachable x → (r : Round) → phase x 2 ≡ Collect r → (step_of x (Match 2 9)).answer ≡ Accepted 0 0
+      MatchesTell → (x : Exchange) → Reachable x → (r : Round) → phase x 2 ≡ Collect r → (step_of x (Match 2 9)).answer ≡ Ok (0, 0)
       → base_of r ≡ 1 → (d : ℕ) → d * 1000000 ≤ r.hi.0 * 1 → d * 1000000 < r.lo.0 * 1
 
 -- ---- what meets it

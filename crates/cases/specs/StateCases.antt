@@ -1,5 +1,5 @@
 -- What is read off a state and the changes of a round, on data where every number is another; and what entering and leaving at once give.
-use Rattle.std.specs.Prelude.{ℕ, Bool, ◌≡◌, List, [], ◌∷◌, ◌++◌, length}
+use Rattle.std.specs.Prelude.{ℕ, Bool, ◌≡◌, List, [], ◌∷◌, ◌++◌, length, Ok}
 use Rattle.units.specs.Counts.{amount, price, block}
 use Rattle.pricing.specs.declared.Side.TheVariants.{Buy, Sell}
 use Rattle.pricing.specs.declared.Totals.{Totals}
@@ -10,7 +10,6 @@ use Rattle.model.specs.declared.state.Phase.{Phase}
 use Rattle.model.specs.declared.state.Phase.TheVariants.{Collect, Paying}
 use Rattle.model.specs.declared.state.Exchange.{Exchange}
 use Rattle.model.specs.declared.call.Call.TheVariants.{Enter, Leave}
-use Rattle.model.specs.declared.answer.Answer.TheVariants.{Accepted}
 use Rattle.model.specs.State.{is_free, is_entered, is_closed, is_collect, is_auction, is_paying}
 use Rattle.model.specs.State.{with_start, with_tickets, with_buys, with_sells, with_quote, with_base, with_sides, with_held, opened_between, blank_round, balance, supply, residue, last_block, ticket, order_in, phase, round_in, with_supply, with_residue, with_ticket, with_phase, with_block, credit, debit, to_residue, fresh_exchange}
 use Rattle.model.specs.Calls.{accept, left_round}
@@ -132,13 +131,13 @@ states_changed =
 -- and sells_paid
 abbrev pub EntersAndLeaves : Type 0
 EntersAndLeaves =
-    (x : Exchange) → Reachable x → ticket x 63 ≡ Resting (order 15 3 Sell 2250000 170) → (step_of x (Enter 63)).answer ≡ Accepted 268 0
+    (x : Exchange) → Reachable x → ticket x 63 ≡ Resting (order 15 3 Sell 2250000 170) → (step_of x (Enter 63)).answer ≡ Ok (268, 0)
     → step_of (step_of x (Enter 63)).exchange (Leave 63 15) ≡ accept 170 0 x
 
 abbrev pub LeavesAndEnters : Type 0
 LeavesAndEnters =
     (x : Exchange) → Reachable x → ticket x 63 ≡ Entered (order 15 3 Sell 2250000 170) → (round_in (phase x 3)).sells ≡ totals 268 0 0
-    → (step_of x (Leave 63 15)).answer ≡ Accepted 170 0
+    → (step_of x (Leave 63 15)).answer ≡ Ok (170, 0)
     → step_of (step_of x (Leave 63 15)).exchange (Enter 63) ≡ accept 268 0 x
 
 -- ticket 63 enters on line 40 and leaves on line 41, after any list and with any answers
@@ -152,14 +151,14 @@ abbrev pub LeavesAbsent : Type 0
 LeavesAbsent =
     (ss : List Submission) (a b : ℕ)
     → let x : Exchange = state_after model_engine fresh_exchange ss in
-    ticket x 63 ≡ Entered (order 15 3 Sell 2250000 170) → (request_of x leaving).answer ≡ Accepted a b
+    ticket x 63 ≡ Entered (order 15 3 Sell 2250000 170) → (request_of x leaving).answer ≡ Ok (a, b)
     → part_in ((history_of (events_of model_engine fresh_exchange (ss ++ (single leaving ∷ [])))).rounds 3) 63 ≡ absent
 
 abbrev pub EntersForgotten : Type 0
 EntersForgotten =
     (ss : List Submission) (a b c d : ℕ)
     → let x : Exchange = state_after model_engine fresh_exchange ss in
-    (request_of x entering).answer ≡ Accepted a b → (request_of (request_of x entering).exchange leaving).answer ≡ Accepted c d
+    (request_of x entering).answer ≡ Ok (a, b) → (request_of (request_of x entering).exchange leaving).answer ≡ Ok (c, d)
     → history_of (events_of model_engine fresh_exchange (ss ++ (single entering ∷ single leaving ∷ []))) ≡ history_of (events_of model_engine fresh_exchange ss)
 
 pub record EnterLeaveUsed : Type 0 where

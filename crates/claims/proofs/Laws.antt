@@ -13,9 +13,8 @@ use Rattle.pricing.specs.declared.Totals.{Totals}
 use Rattle.pricing.specs.declared.Share.{Share}
 use Rattle.pricing.specs.Prices.{share_of}
 use Rattle.ledger.specs.declared.Row.{Row}
-use Rattle.ledger.specs.declared.RowPosting.{RowPosting}
 use Rattle.ledger.specs.Balances.{cell_of, credited_row}
-use Rattle.ledger.specs.Postings.{credit_row_of}
+use Rattle.ledger.specs.Postings.{RowPosting, credit_row_of}
 use Rattle.ledger.proofs.Laws.{credit_row_calls}
 use Rattle.model.specs.declared.state.Order.{Order}
 use Rattle.model.specs.declared.state.Ticket.{Ticket}
@@ -23,7 +22,6 @@ use Rattle.model.specs.declared.state.TicketState.TheVariants.{Free, Resting, En
 use Rattle.model.specs.declared.state.Round.{Round}
 use Rattle.model.specs.declared.state.Phase.TheVariants.{Paying}
 use Rattle.model.specs.declared.state.Market.{Market}
-use Rattle.model.specs.declared.answer.Answer.TheVariants.{Accepted}
 use Rattle.model.specs.declared.answer.Refusal.TheVariants.{NoSuchOrder, WrongTicketState, WrongPhase}
 use Rattle.model.specs.Sides.{other, by_side, wanted}
 use Rattle.model.specs.State.{closed_market, resting_or, is_paying, totals_of}
@@ -53,13 +51,13 @@ module _
   where
     -- where no ticket of the round is left
     pub paid_last : count_of r.tickets ≡ 0
-        → record { answer = Accepted s got; ticket = left; market = closed_market; row = credited; quote = amount (quote.0 + r.quote.0); base = amount (base.0 + r.base.0) }
+        → record { answer = Ok (s, got); ticket = left; market = closed_market; row = credited; quote = amount (quote.0 + r.quote.0); base = amount (base.0 + r.base.0) }
         ≡ paid_on row quote base o s got r
     paid_last e = rw (eq-eqb _ _ e, et, er)
 
     -- where some are
     pub paid_more : (count_of r.tickets ≡ 0 → ⊥)
-        → record { answer = Accepted s got; ticket = left; market = record { phase = Paying r }; row = credited; quote = quote; base = base }
+        → record { answer = Ok (s, got); ticket = left; market = record { phase = Paying r }; row = credited; quote = quote; base = base }
         ≡ paid_on row quote base o s got r
     paid_more d = rw (ne_eqb _ _ d, et, er)
 

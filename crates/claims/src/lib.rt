@@ -4,57 +4,30 @@
 
 ghost use Rattle.std.specs.Prelude.{◌≡◌, ◌<◌, ◌≤◌, ◌+◌, ◌-◌};
 ghost use Rattle.units.specs.Counts.{amount, largest};
-ghost use Rattle.ledger.specs.Balances.{cell_of};
-ghost use Rattle.model.specs.Sides.{by_side, wanted};
+ghost use Rattle.model.specs.Sides.{by_side};
 ghost use Rattle.model.specs.State.{resting_or, closed_market};
 ghost use Rattle.model.specs.Calls.{claimed_round, share_in, got_in};
 ghost use Rattle.parts.specs.Asked.{PayBounds, ClaimFits};
-ghost use Rattle.parts.specs.Parts.{refused_claimed, paid_on, claim_on};
+ghost use Rattle.parts.specs.Parts.{paid_on, claim_on};
 
 use ledger::{Row, credit_row};
 use model::answer::{Answer, Refusal};
 use model::state::{Market, Order, Phase, Round, Ticket, TicketState};
-use parts::Claimed;
 use pricing::{Side, share_of};
 use sides::{by_side, totals_of, wanted_token};
 use ticket_set::{count, remove};
 use units::Amount;
 
-// A refusal leaves the parts.
-fn refused(
-    t: Ticket,
-    market: Market,
-    row: Row,
-    quote: Amount,
-    base: Amount,
-    why: Refusal,
-) -> Claimed
-    ensures { result ≡ refused_claimed t market row quote base why }
-{
-    Claimed {
-        answer: Answer::Refused(why),
-        ticket: t,
-        market,
-        row,
-        quote,
-        base,
-    }
-}
-
 // A ticket with the rest of its order, free where that is 0.
 fn resting_or(o: Order, rest: Amount) -> Ticket
     ensures { result ≡ record { state = resting_or o rest.0 } }
 {
-    if rest.is_zero() {
-        return Ticket {
-            state: TicketState::Free,
-        };
-    }
-    let mut left = o;
-    left.offer = rest;
-    Ticket {
-        state: TicketState::Resting(left),
-    }
+    let state = if rest == Amount(0) {
+        TicketState::Free
+    } else {
+        TicketState::Resting(Order { offer: rest, ..o })
+    };
+    Ticket { state }
 }
 
 // A round with a ticket's bit cleared, and its refund and what it got moved out.
@@ -64,130 +37,75 @@ fn claimed_round(r: Round, ticket: u32, side: Side, refund: Amount, got: Amount)
         × (by_side side got.0 refund.0 ≤ r.base.0) }
     ensures { result ≡ claimed_round r ticket side refund.0 got.0 }
 {
-    let tickets = remove(r.tickets, ticket);
-    let quote = r.quote;
-    let base = r.base;
-    let quote_left = quote.minus(by_side(side, refund, got));
-    let base_left = base.minus(by_side(side, got, refund));
-    let mut next = r;
-    next.tickets = tickets;
-    next.quote = quote_left;
-    next.base = base_left;
-    next
+    Round {
+        tickets: remove(r.tickets, ticket),
+        quote: r.quote.minus(by_side(side, refund, got)),
+        base: r.base.minus(by_side(side, got, refund)),
+        ..r
+    }
 }
 
 // The last claim of a round: the market closes, and what the round still holds goes into the residue.
-fn last_claim(
-    answer: Answer,
-    ticket: Ticket,
-    row: Row,
-    quote: Amount,
-    base: Amount,
-    r: Round,
-) -> Claimed
-    requires { (quote.0 + r.quote.0 ≤ largest) × (base.0 + r.base.0 ≤ largest) }
-    ensures { result ≡ record {
-      answer = answer;
-      ticket = ticket;
-      market = closed_market;
-      row = row;
-      quote = amount (quote.0 + r.quote.0);
-      base = amount (base.0 + r.base.0);
-    } }
+fn close(market: &mut Market, quote: &mut Amount, base: &mut Amount, r: Round)
+    requires { (quote.old.0 + r.quote.0 ≤ largest) × (base.old.0 + r.base.0 ≤ largest) }
+    ensures market { market.new ≡ closed_market }
+    ensures quote { quote.new ≡ amount (quote.old.0 + r.quote.0) }
+    ensures base { base.new ≡ amount (base.old.0 + r.base.0) }
 {
-    let held_quote = r.quote;
-    let held_base = r.base;
-    let swept_quote = quote.plus(held_quote);
-    let swept_base = base.plus(held_base);
-    Claimed {
-        answer,
-        ticket,
-        market: Market {
-            phase: Phase::Closed,
-        },
-        row,
-        quote: swept_quote,
-        base: swept_base,
-    }
-}
-
-// Order o paid s and got, out of a round that is left as next.
-fn paid(
-    row: Row,
-    quote: Amount,
-    base: Amount,
-    o: Order,
-    s: Amount,
-    got: Amount,
-    next: Round,
-) -> Claimed
-    requires { (o.market < 4)
-        × (s.0 ≤ o.offer.0)
-        × (cell_of row (wanted o.side o.market) + got.0 ≤ largest)
-        × (quote.0 + next.quote.0 ≤ largest)
-        × (base.0 + next.base.0 ≤ largest) }
-    ensures { result ≡ paid_on row quote base o s.0 got.0 next }
-{
-    let side = o.side;
-    let offer = o.offer;
-    let answer = Answer::Accepted(s.0, got.0);
-    let left = resting_or(o, offer.minus(s));
-    let p = credit_row(row, wanted_token(side, o.market), got);
-    let credited = p.row;
-    if count(next.tickets) == 0 {
-        return last_claim(answer, left, credited, quote, base, next);
-    }
-    Claimed {
-        answer,
-        ticket: left,
-        market: Market {
-            phase: Phase::Paying(next),
-        },
-        row: credited,
-        quote,
-        base,
-    }
+    market.phase = Phase::Closed;
+    *quote = quote.plus(r.quote);
+    *base = base.plus(r.base);
 }
 
 // Order o of a ticket paid its share out of its round.
-fn pay(row: Row, quote: Amount, base: Amount, ticket: u32, o: Order, r: Round) -> Claimed
-    requires { (ticket < 64) × PayBounds o r row quote base ticket }
-    ensures { result ≡ paid_on row quote base o (share_in r o) (got_in r o)
+fn pay(
+    t: &mut Ticket,
+    market: &mut Market,
+    row: &mut Row,
+    quote: &mut Amount,
+    base: &mut Amount,
+    ticket: u32,
+    o: Order,
+    r: Round,
+) -> Answer
+    requires { (ticket < 64) × PayBounds o r row.old quote.old base.old ticket }
+    ensures { record { answer = result; ticket = t.new; market = market.new; row = row.new; quote = quote.new; base = base.new }
+        ≡ paid_on row.old quote.old base.old o (share_in r o) (got_in r o)
         (claimed_round r ticket o.side (o.offer.0 - share_in r o) (got_in r o)) }
 {
-    let side = o.side;
-    let offer = o.offer;
-    let share = share_of(offer, totals_of(r, side));
-    let s = share.paid;
-    let got = share.got;
-    let next = claimed_round(r, ticket, side, offer.minus(s), got);
-    paid(row, quote, base, o, s, got, next)
+    let share = share_of(o.offer, totals_of(r, o.side));
+    let refund = o.offer.minus(share.paid);
+    let next = claimed_round(r, ticket, o.side, refund, share.got);
+    *t = resting_or(o, refund);
+    let _ = credit_row(row, wanted_token(o.side, o.market), share.got);
+    if count(next.tickets) == 0 {
+        close(market, quote, base, next);
+    } else {
+        market.phase = Phase::Paying(next);
+    }
+    Ok((share.paid.0, share.got.0))
 }
 
 // 10 Claim: a ticket in a round that pays is paid its share.
 pub fn claim(
-    t: Ticket,
-    market: Market,
-    row: Row,
-    quote: Amount,
-    base: Amount,
+    t: &mut Ticket,
+    market: &mut Market,
+    row: &mut Row,
+    quote: &mut Amount,
+    base: &mut Amount,
     ticket: u32,
-) -> Claimed
-    requires { (ticket < 64) × ClaimFits t market row quote base ticket }
-    ensures { result ≡ claim_on t market row quote base ticket }
+) -> Answer
+    requires { (ticket < 64) × ClaimFits t.old market.old row.old quote.old base.old ticket }
+    ensures { record { answer = result; ticket = t.new; market = market.new; row = row.new; quote = quote.new; base = base.new }
+        ≡ claim_on t.old market.old row.old quote.old base.old ticket }
 {
-    let state = t.state;
-    match state {
-        TicketState::Free => refused(t, market, row, quote, base, Refusal::NoSuchOrder),
-        TicketState::Resting(_) => refused(t, market, row, quote, base, Refusal::WrongTicketState),
-        TicketState::Entered(o) => {
-            let phase = market.phase;
-            match phase {
-                Phase::Closed => refused(t, market, row, quote, base, Refusal::WrongPhase),
-                Phase::Collect(_) => refused(t, market, row, quote, base, Refusal::WrongPhase),
-                Phase::Auction(_) => refused(t, market, row, quote, base, Refusal::WrongPhase),
-                Phase::Paying(r) => pay(row, quote, base, ticket, o, r),
-            }
-        }
-    }
+    let o = match t.state {
+        TicketState::Free => return Err(Refusal::NoSuchOrder),
+        TicketState::Resting(_) => return Err(Refusal::WrongTicketState),
+        TicketState::Entered(o) => o,
+    };
+    let Phase::Paying(r) = market.phase else {
+        return Err(Refusal::WrongPhase);
+    };
+    pay(t, market, row, quote, base, ticket, o, r)
 }

@@ -8,7 +8,6 @@ use Rattle.ticket_set.specs.TicketSet.{next_from, next_of, members_from, members
 use Rattle.model.specs.declared.state.Exchange.{Exchange}
 use Rattle.model.specs.declared.state.Phase.TheVariants.{Closed}
 use Rattle.model.specs.declared.call.Call.TheVariants as Call
-use Rattle.model.specs.declared.answer.Answer.TheVariants.{Accepted}
 use Rattle.model.specs.State.{fresh_exchange, is_paying, phase}
 use Rattle.model.specs.Answers.{code_of, first_of, second_of}
 use Rattle.model.specs.Run.{Reachable, step_of, after_calls}
@@ -76,7 +75,7 @@ pub paying_used : PayingClaims → (x : Exchange) → Reachable x → is_paying 
     × (0 < first_of (next_marked y 3) → is_paying (phase y 3) ≡ true)
 paying_used s x l e = let r = s x l 3 e in (r.told, r.some, r.accepted, r.one_less, r.closed, r.paying)
 
-pub settled_used : SettledCloses → (x : Exchange) → Reachable x → (step_of x (Call.Settle 2 9)).answer ≡ Accepted 7 5
+pub settled_used : SettledCloses → (x : Exchange) → Reachable x → (step_of x (Call.Settle 2 9)).answer ≡ Ok (7, 5)
     → (host_calls 64 x 2 9 ≡ closing_calls x 2 9)
     × AllAccepted x (host_calls 64 x 2 9)
     × (length (host_calls 64 x 2 9) ≤ 65)

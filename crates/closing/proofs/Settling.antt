@@ -11,7 +11,6 @@ use Rattle.model.specs.declared.state.Exchange.{Exchange}
 use Rattle.model.specs.declared.state.Phase.TheVariants.{Auction}
 use Rattle.model.specs.declared.state.Round.{Round}
 use Rattle.model.specs.declared.call.Call.{Call}
-use Rattle.model.specs.declared.answer.Answer.TheVariants.{Accepted}
 use Rattle.model.specs.declared.answer.Outcome.{Outcome}
 use Rattle.model.specs.declared.answer.Refusal.TheVariants.{BufferTooShort}
 use Rattle.model.specs.State.{fresh_exchange, is_auction, is_closed, phase, round_in}
@@ -28,7 +27,7 @@ use Rattle.units.proofs.Decide.{Passed}
 use Rattle.closing.specs.Settling.{SettleTells, SettlesTell}
 
 -- the step of a settle that is accepted
-step_tells : (x : Exchange) (y : History) → Inv x y → (market at quote base : ℕ) → (step_of x (Call.Settle market at)).answer ≡ Accepted quote base
+step_tells : (x : Exchange) (y : History) → Inv x y → (market at quote base : ℕ) → (step_of x (Call.Settle market at)).answer ≡ Ok (quote, base)
     → (b : RoundLog) × SettleTells y market quote base b
 step_tells x y i market at quote base e =
     let p : Passed (settle_tests x market at) = accepted_passed x (Call.Settle market at) quote base e in
@@ -40,7 +39,7 @@ step_tells x y i market at quote base e =
     let b : RoundLog = log_of (y.rounds market) in
     let er : y.rounds market ≡ running b = running_is (phase x market) (y.rounds market) (ap is_closed ep) (i.markets market low high) in
     let ok : RoundOk auctioning r b = subst₂ MarketOk ep er (i.markets market low high) in
-    let told : Accepted quote base ≡ Accepted r.buys.paid.0 r.sells.paid.0 =
+    let told : Ok (quote, base) ≡ Ok (r.buys.paid.0, r.sells.paid.0) =
     sym e ∙ ap (λ (out : Outcome). out.answer) (step_passed x (Call.Settle market at) p) in (
       b,
       record {
@@ -52,11 +51,11 @@ step_tells x y i market at quote base e =
     )
 
 -- a request that is accepted is its call's step
-step_accepted : (x : Exchange) (q : Request) (a b : ℕ) → (request_of x q).answer ≡ Accepted a b → (step_of x q.call).answer ≡ Accepted a b
+step_accepted : (x : Exchange) (q : Request) (a b : ℕ) → (request_of x q).answer ≡ Ok (a, b) → (step_of x q.call).answer ≡ Ok (a, b)
 unfolding request_of
 step_accepted x q a b = go (ltb q.room (length (answer_line q.line (step_of x q.call).answer)))
   where
-    go : (t : Bool) → (cond t (refuse x BufferTooShort) (step_of x q.call)).answer ≡ Accepted a b → (step_of x q.call).answer ≡ Accepted a b
+    go : (t : Bool) → (cond t (refuse x BufferTooShort) (step_of x q.call)).answer ≡ Ok (a, b) → (step_of x q.call).answer ≡ Ok (a, b)
     go true e = absurd (let z : ◌≡◌ {A = ℕ} 0 1 = cc in omega arith)
     go false e = e
 

@@ -19,7 +19,6 @@ use Rattle.model.specs.declared.state.Market.{Market}
 use Rattle.model.specs.declared.state.Phase.TheVariants.{Closed, Paying}
 use Rattle.model.specs.declared.state.Round.{Round}
 use Rattle.model.specs.declared.call.Call.{Call}
-use Rattle.model.specs.declared.answer.Answer.TheVariants.{Refused}
 use Rattle.model.specs.declared.answer.Outcome.{Outcome}
 use Rattle.model.specs.State.{closed_market, is_paying, phase, round_in}
 use Rattle.model.specs.Answers.{code_of, first_of, second_of}
@@ -41,7 +40,7 @@ use Rattle.closing.proofs.PayingMarks.{Marked, reachable_marked}
 module _ (x : Exchange) (market : ℕ) (low : 0 < market) (high : market < 4) where
   pub told_is : next_marked x market ≡ marked_in (marks x market)
   unfolding next_marked
-  told_is = decide_passed Refused (marked_in (marks x market)) (market_form market) (rw (le-ltb market 1 low, le-ltb 3 market (omega arith)), tt)
+  told_is = decide_passed Err (marked_in (marks x market)) (market_form market) (rw (le-ltb market 1 low, le-ltb 3 market (omega arith)), tt)
 
   told_accepted : code_of (next_marked x market) ≡ 0
   unfolding marked_in

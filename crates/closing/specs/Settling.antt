@@ -1,8 +1,7 @@
 -- What settle answers, worked from history: the two numbers by which a licence may bill.
-use Rattle.std.specs.Prelude.{ℕ, ◌≡◌, List}
+use Rattle.std.specs.Prelude.{ℕ, ◌≡◌, List, Ok}
 use Rattle.pricing.specs.declared.Side.TheVariants.{Buy, Sell}
 use Rattle.model.specs.declared.call.Call.TheVariants as Call
-use Rattle.model.specs.declared.answer.Answer.TheVariants.{Accepted}
 use Rattle.model.specs.State.{fresh_exchange}
 use Rattle.model.specs.Run.{Request, request_of}
 use Rattle.model.specs.Submissions.{Submission, model_engine, events_of, state_after}
@@ -20,5 +19,5 @@ pub record SettleTells (y : History) (market quote base : ℕ) (b : RoundLog) : 
 abbrev pub SettlesTell : Type 0
 SettlesTell =
     (ss : List Submission) (q : Request) (market at quote base : ℕ) → q.call ≡ Call.Settle market at
-    → (request_of (state_after model_engine fresh_exchange ss) q).answer ≡ Accepted quote base
+    → (request_of (state_after model_engine fresh_exchange ss) q).answer ≡ Ok (quote, base)
     → (b : RoundLog) × SettleTells (history_of (events_of model_engine fresh_exchange ss)) market quote base b

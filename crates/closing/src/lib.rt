@@ -22,9 +22,7 @@ fn marked(market: Market) -> u64
     let phase = market.phase;
     match phase {
         Phase::Closed => 0,
-        Phase::Collect(r) => r.tickets,
-        Phase::Auction(r) => r.tickets,
-        Phase::Paying(r) => r.tickets,
+        Phase::Collect(r) | Phase::Auction(r) | Phase::Paying(r) => r.tickets,
     }
 }
 
@@ -32,7 +30,7 @@ fn marked(market: Market) -> u64
 fn told(set: u64) -> Answer
     ensures { result ≡ marked_in set }
 {
-    Answer::Accepted(count(set), next_ticket(set).unwrap_or(0))
+    Ok((count(set), next_ticket(set).unwrap_or(0)))
 }
 
 // How many tickets a market's round marks, and the lowest of them, the next to claim; 0 and 0 where none is marked.
@@ -40,7 +38,7 @@ pub fn next_marked(x: Exchange, market: u32) -> Answer
     requires { Reachable x }
     ensures { result ≡ next_marked x market }
 {
-    let refused = Answer::Refused(Refusal::NoSuchMarket);
+    let refused = Err(Refusal::NoSuchMarket);
     if market < FIRST_MARKET {
         return refused;
     }

@@ -9,13 +9,10 @@ ghost use Rattle.model.specs.State.{totals_of};
 ghost use Rattle.model.specs.Calls.{plus_total, entered_round};
 ghost use Rattle.model.specs.Bounds.{held_in};
 ghost use Rattle.parts.specs.Asked.{EnterBounds};
-ghost use Rattle.parts.specs.Parts.{refused_joined, enter_on};
-ghost use Rattle.model.specs.declared.state.TicketState.TheVariants.{Resting};
-ghost use Rattle.model.specs.declared.state.Phase.TheVariants.{Collect};
+ghost use Rattle.parts.specs.Parts.{enter_on};
 
 use model::answer::{Answer, Refusal};
-use model::state::{Market, Order, Phase, Round, Ticket, TicketState};
-use parts::Joined;
+use model::state::{Market, Phase, Round, Ticket, TicketState};
 use pricing::{Side, Totals};
 use sides::totals_of;
 use ticket_set::insert;
@@ -26,8 +23,8 @@ fn off_limit(side: Side, limit: Price, r: Round) -> bool
     ensures { result ≡ off_limit side limit.0 r.hi.0 r.lo.0 }
 {
     match side {
-        Side::Buy => limit.below(r.hi),
-        Side::Sell => r.lo.below(limit),
+        Side::Buy => limit < r.hi,
+        Side::Sell => r.lo < limit,
     }
 }
 
@@ -36,10 +33,10 @@ fn plus_total(t: Totals, n: Amount) -> Totals
     requires { t.total.0 + n.0 ≤ largest }
     ensures { result ≡ plus_total t n.0 }
 {
-    let total = t.total.plus(n);
-    let mut next = t;
-    next.total = total;
-    next
+    Totals {
+        total: t.total.plus(n),
+        ..t
+    }
 }
 
 // A round with a ticket in its set, and with the whole offer in its side's total and in what the round holds.
@@ -50,85 +47,41 @@ fn joined_round(r: Round, ticket: u32, side: Side, offer: Amount) -> Round
     ensures { result ≡ entered_round r ticket side offer.0 }
 {
     let tickets = insert(r.tickets, ticket);
-    let mut next = r;
-    next.tickets = tickets;
     match side {
-        Side::Buy => {
-            let buys = plus_total(r.buys, offer);
-            let quote = r.quote.plus(offer);
-            next.buys = buys;
-            next.quote = quote;
-            next
-        }
-        Side::Sell => {
-            let sells = plus_total(r.sells, offer);
-            let base = r.base.plus(offer);
-            next.sells = sells;
-            next.base = base;
-            next
-        }
-    }
-}
-
-// A refusal leaves the ticket and its market.
-pub fn refused(t: Ticket, market: Market, why: Refusal) -> Joined
-    ensures { result ≡ refused_joined t market why }
-{
-    Joined {
-        answer: Answer::Refused(why),
-        ticket: t,
-        market,
-    }
-}
-
-// Enter of a resting ticket into a round that collects.
-#[tactic(auto, unfolding(parts::specs::Parts::enter_on))]
-fn join(t: Ticket, market: Market, ticket: u32, o: Order, r: Round) -> Joined
-    requires { (ticket < 64)
-        × (t.state ≡ Resting o)
-        × (market.phase ≡ Collect r)
-        × ((totals_of r o.side).total.0 + o.offer.0 ≤ largest)
-        × (held_in r o.side + o.offer.0 ≤ largest) }
-    ensures { result ≡ enter_on t market ticket }
-{
-    let side = o.side;
-    let limit = o.limit;
-    let offer = o.offer;
-    if off_limit(side, limit, r) {
-        return refused(t, market, Refusal::LimitOutOfBounds);
-    }
-    let next = joined_round(r, ticket, side, offer);
-    let totals = totals_of(next, side);
-    let total = totals.total;
-    Joined {
-        answer: Answer::Accepted(total.0, 0),
-        ticket: Ticket {
-            state: TicketState::Entered(o),
+        Side::Buy => Round {
+            tickets,
+            buys: plus_total(r.buys, offer),
+            quote: r.quote.plus(offer),
+            ..r
         },
-        market: Market {
-            phase: Phase::Collect(next),
+        Side::Sell => Round {
+            tickets,
+            sells: plus_total(r.sells, offer),
+            base: r.base.plus(offer),
+            ..r
         },
     }
 }
 
 // 6 Enter.
 #[tactic(auto, unfolding(parts::specs::Parts::enter_on))]
-pub fn enter(t: Ticket, market: Market, ticket: u32) -> Joined
-    requires { (ticket < 64) × EnterBounds t market }
-    ensures { result ≡ enter_on t market ticket }
+pub fn enter(t: &mut Ticket, market: &mut Market, ticket: u32) -> Answer
+    requires { (ticket < 64) × EnterBounds t.old market.old }
+    ensures { record { answer = result; ticket = t.new; market = market.new } ≡ enter_on t.old market.old ticket }
 {
-    let state = t.state;
-    match state {
-        TicketState::Free => refused(t, market, Refusal::NoSuchOrder),
-        TicketState::Entered(_) => refused(t, market, Refusal::WrongTicketState),
-        TicketState::Resting(o) => {
-            let phase = market.phase;
-            match phase {
-                Phase::Closed => refused(t, market, Refusal::WrongPhase),
-                Phase::Collect(r) => join(t, market, ticket, o, r),
-                Phase::Auction(_) => refused(t, market, Refusal::WrongPhase),
-                Phase::Paying(_) => refused(t, market, Refusal::WrongPhase),
-            }
-        }
+    let o = match t.state {
+        TicketState::Free => return Err(Refusal::NoSuchOrder),
+        TicketState::Entered(_) => return Err(Refusal::WrongTicketState),
+        TicketState::Resting(o) => o,
+    };
+    let Phase::Collect(r) = market.phase else {
+        return Err(Refusal::WrongPhase);
+    };
+    if off_limit(o.side, o.limit, r) {
+        return Err(Refusal::LimitOutOfBounds);
     }
+    let next = joined_round(r, ticket, o.side, o.offer);
+    t.state = TicketState::Entered(o);
+    market.phase = Phase::Collect(next);
+    Ok((totals_of(next, o.side).total.0, 0))
 }

@@ -1,7 +1,7 @@
-// The calls by value, each in a state that calls can leave. A call's work is done on the parts that it touches, and the parts are put back.
+// The calls, each in a state that calls can leave: on a state lent to the call, and by value. A call's work is done on the parts that it touches, where they lie.
 #![tactic(auto)]
 
-ghost use Rattle.std.specs.Prelude.{◌≡◌};
+ghost use Rattle.std.specs.Prelude.{◌≡◌, Ok};
 ghost use Rattle.model.specs.Calls.{deposit_of, withdraw_of, order_of, cancel_of, open_of, enter_of, match_of, bid_of, settle_of, claim_of, leave_of};
 ghost use Rattle.model.specs.Run.{Reachable, step_of};
 ghost use Rattle.work.specs.Work.{work_done, PlacesExist};
@@ -15,139 +15,80 @@ use units::Block;
 use work::{AccountAct, EntryAct, MarketAct, Work, account_work, entry_work, market_work, work_of};
 
 // Work on a member's row, a token's supply and a ticket.
-fn on_account(x: Exchange, member: u32, token: u32, ticket: u32, act: AccountAct) -> Outcome
-    requires { Reachable x × PlacesExist (Account member token ticket act) }
-    ensures { result ≡ work_done x (Account member token ticket act) }
+fn on_account(x: &mut Exchange, member: u32, token: u32, ticket: u32, act: AccountAct) -> Answer
+    requires { Reachable x.old × PlacesExist (Account member token ticket act) }
+    ensures { record { answer = result; exchange = x.new } ≡ work_done x.old (Ok (Account member token ticket act)) }
 {
-    let m = member as usize;
-    let t = token as usize;
-    let k = ticket as usize;
-    let mut next = x;
-    let mut ledger = x.ledger;
-    let p = account_work(
-        ledger.rows[m],
-        next.supply[t],
-        next.tickets[k],
+    account_work(
+        &mut x.ledger.rows[member as usize],
+        &mut x.supply[token as usize],
+        &mut x.tickets[ticket as usize],
         member,
         token,
         act,
-    );
-    let row = p.row;
-    let supply = p.supply;
-    let after = p.ticket;
-    let answer = p.answer;
-    ledger.rows[m] = row;
-    next.ledger = ledger;
-    next.supply[t] = supply;
-    next.tickets[k] = after;
-    Outcome {
-        answer,
-        exchange: next,
-    }
+    )
 }
 
 // Work on a market, a member's row and the last block.
-fn on_market(x: Exchange, market: u32, member: u32, block: Block, act: MarketAct) -> Outcome
-    requires { Reachable x × PlacesExist (Market market member block act) }
-    ensures { result ≡ work_done x (Market market member block act) }
+fn on_market(x: &mut Exchange, market: u32, member: u32, block: Block, act: MarketAct) -> Answer
+    requires { Reachable x.old × PlacesExist (Market market member block act) }
+    ensures { record { answer = result; exchange = x.new } ≡ work_done x.old (Ok (Market market member block act)) }
 {
-    let n = (market - 1) as usize;
-    let m = member as usize;
-    let mut next = x;
-    let mut ledger = x.ledger;
-    let p = market_work(
-        next.markets[n],
-        ledger.rows[m],
-        next.last,
+    market_work(
+        &mut x.markets[(market - 1) as usize],
+        &mut x.ledger.rows[member as usize],
+        &mut x.last,
         market,
         block,
         act,
-    );
-    let row = p.row;
-    let after = p.market;
-    let last = p.last;
-    let answer = p.answer;
-    ledger.rows[m] = row;
-    next.ledger = ledger;
-    next.markets[n] = after;
-    next.last = last;
-    Outcome {
-        answer,
-        exchange: next,
-    }
+    )
 }
 
 // Work on a ticket and its market.
-fn on_entry(x: Exchange, ticket: u32, act: EntryAct) -> Outcome
-    requires { Reachable x × PlacesExist (Entry ticket act) }
-    ensures { result ≡ work_done x (Entry ticket act) }
+fn on_entry(x: &mut Exchange, ticket: u32, act: EntryAct) -> Answer
+    requires { Reachable x.old × PlacesExist (Entry ticket act) }
+    ensures { record { answer = result; exchange = x.new } ≡ work_done x.old (Ok (Entry ticket act)) }
 {
     let k = ticket as usize;
-    let mut next = x;
-    let t = next.tickets[k];
-    let n = (ticket_market(t) - 1) as usize;
-    let p = entry_work(t, next.markets[n], ticket, act);
-    let entered = p.ticket;
-    let after = p.market;
-    let answer = p.answer;
-    next.tickets[k] = entered;
-    next.markets[n] = after;
-    Outcome {
-        answer,
-        exchange: next,
-    }
+    let market = ticket_market(x.tickets[k]);
+    entry_work(
+        &mut x.tickets[k],
+        &mut x.markets[(market - 1) as usize],
+        ticket,
+        act,
+    )
 }
 
 // Work on a ticket, its market, its member's row and the residue of the market's two tokens.
-fn on_claim(x: Exchange, ticket: u32) -> Outcome
-    requires { Reachable x × PlacesExist (Claim ticket) }
-    ensures { result ≡ work_done x (Claim ticket) }
+fn on_claim(x: &mut Exchange, ticket: u32) -> Answer
+    requires { Reachable x.old × PlacesExist (Claim ticket) }
+    ensures { record { answer = result; exchange = x.new } ≡ work_done x.old (Ok (Claim ticket)) }
 {
     let k = ticket as usize;
-    let mut next = x;
-    let mut ledger = x.ledger;
-    let t = next.tickets[k];
-    let market = ticket_market(t);
-    let b = market as usize;
-    let n = (market - 1) as usize;
-    let m = ticket_member(t) as usize;
-    let p = claims::claim(
-        t,
-        next.markets[n],
-        ledger.rows[m],
-        next.residue[0],
-        next.residue[b],
+    let market = ticket_market(x.tickets[k]);
+    let member = ticket_member(x.tickets[k]);
+    // two places of one array
+    let mut quote = x.residue[0];
+    let mut base = x.residue[market as usize];
+    let answer = claims::claim(
+        &mut x.tickets[k],
+        &mut x.markets[(market - 1) as usize],
+        &mut x.ledger.rows[member as usize],
+        &mut quote,
+        &mut base,
         ticket,
     );
-    let left = p.ticket;
-    let after = p.market;
-    let row = p.row;
-    let quote = p.quote;
-    let base = p.base;
-    let answer = p.answer;
-    ledger.rows[m] = row;
-    next.ledger = ledger;
-    next.residue[0] = quote;
-    next.residue[b] = base;
-    next.tickets[k] = left;
-    next.markets[n] = after;
-    Outcome {
-        answer,
-        exchange: next,
-    }
+    x.residue[0] = quote;
+    x.residue[market as usize] = base;
+    answer
 }
 
-// One call: its answer, and the state after it.
-pub fn step(x: Exchange, c: Call) -> Outcome
-    requires { Reachable x }
-    ensures { result ≡ step_of x c }
+// One call on a state lent to it: its answer. x is then the state after it.
+pub fn apply(x: &mut Exchange, c: Call) -> Answer
+    requires { Reachable x.old }
+    ensures { record { answer = result; exchange = x.new } ≡ step_of x.old c }
 {
-    let work = work_of(c);
-    match work {
-        Work::Refused(why) => Outcome {
-            answer: Answer::Refused(why),
-            exchange: x,
-        },
+    match work_of(c)? {
         Work::Account {
             member,
             token,
@@ -163,6 +104,16 @@ pub fn step(x: Exchange, c: Call) -> Outcome
         Work::Entry { ticket, act } => on_entry(x, ticket, act),
         Work::Claim { ticket } => on_claim(x, ticket),
     }
+}
+
+// One call: its answer, and the state after it.
+pub fn step(x: Exchange, c: Call) -> Outcome
+    requires { Reachable x }
+    ensures { result ≡ step_of x c }
+{
+    let mut exchange = x;
+    let answer = apply(&mut exchange, c);
+    Outcome { answer, exchange }
 }
 
 // 1 Deposit.

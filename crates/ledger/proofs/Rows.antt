@@ -19,8 +19,6 @@ use Rattle.ledger.specs.declared.Row.{Row}
 use Rattle.ledger.specs.declared.Ledger.{Ledger}
 use Rattle.ledger.specs.declared.Fault.{Fault}
 use Rattle.ledger.specs.declared.Fault.TheVariants.{NoSuchToken, TooLarge, TooSmall}
-use Rattle.ledger.specs.declared.Posting.{Posting}
-use Rattle.ledger.specs.declared.RowPosting.{RowPosting}
 use Rattle.ledger.specs.Balances.{
   no_row,
   cell_of,
@@ -35,7 +33,7 @@ use Rattle.ledger.specs.Balances.{
   RowShaped,
   Shaped,
 }
-use Rattle.ledger.specs.Postings.{posted, unposted, posted_row, unposted_row, credit_of, debit_of, credit_row_of, debit_row_of}
+use Rattle.ledger.specs.Postings.{RowPosting, Posting, posted, unposted, posted_row, unposted_row, credit_of, debit_of, credit_row_of, debit_row_of}
 
 -- ---- one row
 

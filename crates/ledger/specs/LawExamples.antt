@@ -1,10 +1,9 @@
 -- The laws of Laws.antt in numbers: what each gives at the last member, the last token and the largest number, and what each refuses there.
-use Rattle.std.specs.Prelude.{ℕ, ◌+◌, ◌-◌, ◌≤◌, ◌<◌, ◌≡◌, List, [], ◌∷◌, map, length, replicate, get_or, set}
+use Rattle.std.specs.Prelude.{ℕ, ◌+◌, ◌-◌, ◌≤◌, ◌<◌, ◌≡◌, List, [], ◌∷◌, map, length, replicate, get_or, set, Ok, Err}
 use Rattle.units.specs.Counts.{amount}
 use Rattle.ledger.specs.declared.Row.{Row}
 use Rattle.ledger.specs.declared.Ledger.{Ledger}
 use Rattle.ledger.specs.declared.Fault.TheVariants.{NoSuchMember, NoSuchToken, TooLarge, TooSmall}
-use Rattle.ledger.specs.declared.Entry.TheVariants.{Done, Failed}
 use Rattle.ledger.specs.Balances.{
   no_row,
   cell_of,
@@ -95,10 +94,10 @@ pub record LawsUsed : Type 0 where
   -- 1 and 2, of each call, with the ledger or the row as it was
   pub no_member :
       BalanceCalls → CreditCalls → DebitCalls → (l : Ledger)
-      → (balance_of l 16 4 ≡ Failed NoSuchMember) × (credit_of l 16 4 7 ≡ unposted l NoSuchMember) × (debit_of l 16 4 7 ≡ unposted l NoSuchMember)
+      → (balance_of l 16 4 ≡ Err NoSuchMember) × (credit_of l 16 4 7 ≡ unposted l NoSuchMember) × (debit_of l 16 4 7 ≡ unposted l NoSuchMember)
   pub no_token :
       BalanceCalls → CreditCalls → DebitCalls → (l : Ledger)
-      → (balance_of l 15 4 ≡ Failed NoSuchToken) × (credit_of l 15 4 7 ≡ unposted l NoSuchToken) × (debit_of l 15 4 7 ≡ unposted l NoSuchToken)
+      → (balance_of l 15 4 ≡ Err NoSuchToken) × (credit_of l 15 4 7 ≡ unposted l NoSuchToken) × (debit_of l 15 4 7 ≡ unposted l NoSuchToken)
   pub row_no_token :
       CreditRowCalls → DebitRowCalls → (r : Row)
       → (credit_row_of r 4 7 ≡ unposted_row r NoSuchToken) × (debit_row_of r 4 7 ≡ unposted_row r NoSuchToken)
@@ -118,7 +117,7 @@ pub record LawsUsed : Type 0 where
   pub row_short :
       DebitRowCalls → (r : Row) → cell_of r 3 ≡ 5
       → (debit_row_of r 3 6 ≡ unposted_row r TooSmall) × (debit_row_of r 3 5 ≡ posted_row (debited_row r 3 5) (cell_of r 3 - 5))
-  pub tells_last : BalanceCalls → (l : Ledger) → balance_of l 15 3 ≡ Done (amount (balance_in l 15 3))
+  pub tells_last : BalanceCalls → (l : Ledger) → balance_of l 15 3 ≡ Ok (amount (balance_in l 15 3))
 
 -- ---- what they refuse
 

@@ -1,12 +1,11 @@
 -- What is proved of the ledger, and all that the crates above go by: balances, totals, and rows taken out, changed and put back. The proofs
 -- stand in proofs/Laws.antt. n units of token t, seen at token u, are `only t n u`.
-use Rattle.std.specs.Prelude.{ℕ, ◌+◌, ◌-◌, ◌≤◌, ◌<◌, ◌≡◌, get_or, set}
+use Rattle.std.specs.Prelude.{ℕ, ◌+◌, ◌-◌, ◌≤◌, ◌<◌, ◌≡◌, get_or, set, Ok, Err}
 use Rattle.units.specs.Counts.{amount}
 use Rattle.units.specs.Sums.{only}
 use Rattle.ledger.specs.declared.Row.{Row}
 use Rattle.ledger.specs.declared.Ledger.{Ledger}
 use Rattle.ledger.specs.declared.Fault.TheVariants.{NoSuchMember, NoSuchToken, TooLarge, TooSmall}
-use Rattle.ledger.specs.declared.Entry.TheVariants.{Done, Failed}
 use Rattle.ledger.specs.Balances.{
   no_row,
   cell_of,
@@ -128,9 +127,9 @@ RowsInPlace = (l : Ledger) (m : ℕ) → RowsLie l m
 -- ---- calls: each is done, or refused by one of its codes with the ledger, or the row, as it was
 
 pub record BalanceCall (l : Ledger) (m t : ℕ) : Type 0 where
-  pub no_member : 15 < m → balance_of l m t ≡ Failed NoSuchMember
-  pub no_token : m ≤ 15 → 3 < t → balance_of l m t ≡ Failed NoSuchToken
-  pub done : m ≤ 15 → t ≤ 3 → balance_of l m t ≡ Done (amount (balance_in l m t))
+  pub no_member : 15 < m → balance_of l m t ≡ Err NoSuchMember
+  pub no_token : m ≤ 15 → 3 < t → balance_of l m t ≡ Err NoSuchToken
+  pub done : m ≤ 15 → t ≤ 3 → balance_of l m t ≡ Ok (amount (balance_in l m t))
 
 pub record CreditCall (l : Ledger) (m t n : ℕ) : Type 0 where
   pub no_member : 15 < m → credit_of l m t n ≡ unposted l NoSuchMember

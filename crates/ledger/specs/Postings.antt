@@ -1,5 +1,6 @@
 -- What a ledger call answers and leaves, refusals too.
-use Rattle.std.specs.Prelude.{ℕ, ◌+◌, ◌-◌, List, [], ◌∷◌, ◌++◌, ltb}
+use Rattle.std.specs.Prelude.{ℕ, ◌+◌, ◌-◌, List, [], ◌∷◌, ◌++◌, ltb, Ok, Err, Result}
+use Rattle.units.specs.declared.Amount.{Amount}
 use Rattle.units.specs.Counts.{amount, largest}
 use Rattle.units.specs.Ranges.{last_member, last_token}
 use Rattle.units.specs.Decide.{Test, when, decide}
@@ -7,11 +8,23 @@ use Rattle.ledger.specs.declared.Row.{Row}
 use Rattle.ledger.specs.declared.Ledger.{Ledger}
 use Rattle.ledger.specs.declared.Fault.{Fault}
 use Rattle.ledger.specs.declared.Fault.TheVariants.{NoSuchMember, NoSuchToken, TooLarge, TooSmall}
-use Rattle.ledger.specs.declared.Entry.{Entry}
-use Rattle.ledger.specs.declared.Entry.TheVariants.{Done, Failed}
-use Rattle.ledger.specs.declared.Posting.{Posting}
-use Rattle.ledger.specs.declared.RowPosting.{RowPosting}
 use Rattle.ledger.specs.Balances.{cell_of, credited_row, debited_row, balance_in, credited, debited}
+
+-- ---- answers
+
+-- the balance, or why the call is refused
+abbrev pub Entry : Type 0
+Entry = Result Amount Fault
+
+-- the answer, and the ledger after the call
+pub record Posting : Type 0 where
+  pub entry : Entry
+  pub ledger : Ledger
+
+-- the answer, and the row after the call
+pub record RowPosting : Type 0 where
+  pub entry : Entry
+  pub row : Row
 
 -- ---- the numbers of an answer
 
@@ -24,28 +37,28 @@ fault_code TooLarge = 14
 fault_code TooSmall = 19
 
 abbrev pub entry_code : Entry → ℕ
-entry_code (Done a) = 0
-entry_code (Failed f) = fault_code f
+entry_code (Ok a) = 0
+entry_code (Err f) = fault_code f
 
 abbrev pub entry_amount : Entry → ℕ
-entry_amount (Done a) = a.0
-entry_amount (Failed f) = 0
+entry_amount (Ok a) = a.0
+entry_amount (Err f) = 0
 
 -- ---- calls on the ledger
 
 abbrev pub posted : Ledger → ℕ → Posting
-posted l n = record { entry = Done (amount n); ledger = l }
+posted l n = record { entry = Ok (amount n); ledger = l }
 
 -- a refusal leaves the ledger
 abbrev pub unposted : Ledger → Fault → Posting
-unposted l f = record { entry = Failed f; ledger = l }
+unposted l f = record { entry = Err f; ledger = l }
 
 abbrev pub place_tests : ℕ → ℕ → List (Test Fault)
 place_tests m t = when (ltb last_member m) NoSuchMember ∷ when (ltb last_token t) NoSuchToken ∷ []
 
 -- a member's balance of a token
 unfoldable pub balance_of : Ledger → ℕ → ℕ → Entry
-balance_of l m t = decide (place_tests m t) Failed (Done (amount (balance_in l m t)))
+balance_of l m t = decide (place_tests m t) Err (Ok (amount (balance_in l m t)))
 
 abbrev pub credit_tests : Ledger → ℕ → ℕ → ℕ → List (Test Fault)
 credit_tests l m t n =
@@ -66,10 +79,10 @@ debit_of l m t n = decide (debit_tests l m t n) (unposted l) (posted (debited l 
 -- ---- the same calls on one row
 
 abbrev pub posted_row : Row → ℕ → RowPosting
-posted_row r n = record { entry = Done (amount n); row = r }
+posted_row r n = record { entry = Ok (amount n); row = r }
 
 abbrev pub unposted_row : Row → Fault → RowPosting
-unposted_row r f = record { entry = Failed f; row = r }
+unposted_row r f = record { entry = Err f; row = r }
 
 unfoldable pub credit_row_of : Row → ℕ → ℕ → RowPosting
 credit_row_of r t n =

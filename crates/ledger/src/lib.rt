@@ -33,36 +33,18 @@ pub struct Ledger {
     pub rows: [Row; 16],
 }
 
-// Why a ledger call is refused: a balance would pass 4,294,967,295 (TooLarge) or is below the amount (TooSmall), or there is
-// no such place.
-#[derive(Clone, Copy)]
+// Why a ledger call is refused, each with the paper's number: there is no such place, or a balance would pass 4,294,967,295 (TooLarge) or is
+// below the amount (TooSmall).
+#[derive(Clone, Copy, PartialEq, Eq)]
 pub enum Fault {
-    NoSuchMember,
-    NoSuchToken,
-    TooLarge,
-    TooSmall,
+    NoSuchMember = 1,
+    NoSuchToken = 2,
+    TooLarge = 14,
+    TooSmall = 19,
 }
 
 // What a ledger call answers: the balance, or why it is refused.
-#[derive(Clone, Copy)]
-pub enum Entry {
-    Done(Amount),
-    Failed(Fault),
-}
-
-// The answer, and the ledger after the call.
-#[derive(Clone, Copy)]
-pub struct Posting {
-    pub entry: Entry,
-    pub ledger: Ledger,
-}
-
-// The answer, and the row after the call.
-#[derive(Clone, Copy)]
-pub struct RowPosting {
-    pub entry: Entry,
-    pub row: Row,
-}
+pub type Entry = Result<Amount, Fault>;
 
 // All balances 0.
 pub fn fresh() -> Ledger
@@ -78,13 +60,8 @@ pub fn entry_code(e: Entry) -> u32
     ensures { result ≡ entry_code e }
 {
     match e {
-        Entry::Done(_) => 0,
-        Entry::Failed(f) => match f {
-            Fault::NoSuchMember => 1,
-            Fault::NoSuchToken => 2,
-            Fault::TooLarge => 14,
-            Fault::TooSmall => 19,
-        },
+        Ok(_) => 0,
+        Err(fault) => fault as u32,
     }
 }
 
@@ -93,8 +70,8 @@ pub fn entry_amount(e: Entry) -> u32
     ensures { result ≡ entry_amount e }
 {
     match e {
-        Entry::Done(a) => a.0,
-        Entry::Failed(_) => 0,
+        Ok(balance) => balance.0,
+        Err(_) => 0,
     }
 }
 
@@ -107,17 +84,6 @@ pub fn row_of(l: Ledger, member: u32) -> Row
     l.rows[m]
 }
 
-// The ledger with a member's row put back. Public for the crates above.
-pub fn with_row(l: Ledger, member: u32, row: Row) -> Ledger
-    requires { member < 16 }
-    ensures { result ≡ with_row l member row }
-{
-    let at = member as usize;
-    let mut next = l;
-    next.rows[at] = row;
-    next
-}
-
 // A row's amount of a token. Public for the crates above, which ask for a token below 4.
 pub fn cell_of(row: Row, token: u32) -> Amount
     requires { token < 4 }
@@ -128,57 +94,29 @@ pub fn cell_of(row: Row, token: u32) -> Amount
 }
 
 // Adds to a token of a row.
-pub fn credit_row(row: Row, token: u32, n: Amount) -> RowPosting
-    ensures { result ≡ credit_row_of row token n.0 }
+pub fn credit_row(row: &mut Row, token: u32, n: Amount) -> Entry
+    ensures { record { entry = result; row = row.new } ≡ credit_row_of row.old token n.0 }
 {
     if LAST_TOKEN < token {
-        return RowPosting {
-            entry: Entry::Failed(Fault::NoSuchToken),
-            row,
-        };
+        return Err(Fault::NoSuchToken);
     }
     let t = token as usize;
-    let mut next = row;
-    let cell = next.cells[t];
-    if cell.too_much_with(n) {
-        return RowPosting {
-            entry: Entry::Failed(Fault::TooLarge),
-            row,
-        };
-    }
-    let new = cell.plus(n);
-    next.cells[t] = new;
-    RowPosting {
-        entry: Entry::Done(new),
-        row: next,
-    }
+    let sum = row.cells[t].checked_add(n).ok_or(Fault::TooLarge)?;
+    row.cells[t] = sum;
+    Ok(sum)
 }
 
 // Takes from a token of a row.
-pub fn debit_row(row: Row, token: u32, n: Amount) -> RowPosting
-    ensures { result ≡ debit_row_of row token n.0 }
+pub fn debit_row(row: &mut Row, token: u32, n: Amount) -> Entry
+    ensures { record { entry = result; row = row.new } ≡ debit_row_of row.old token n.0 }
 {
     if LAST_TOKEN < token {
-        return RowPosting {
-            entry: Entry::Failed(Fault::NoSuchToken),
-            row,
-        };
+        return Err(Fault::NoSuchToken);
     }
     let t = token as usize;
-    let mut left = row;
-    let cell = left.cells[t];
-    if cell.below(n) {
-        return RowPosting {
-            entry: Entry::Failed(Fault::TooSmall),
-            row,
-        };
-    }
-    let rest = cell.minus(n);
-    left.cells[t] = rest;
-    RowPosting {
-        entry: Entry::Done(rest),
-        row: left,
-    }
+    let rest = row.cells[t].checked_sub(n).ok_or(Fault::TooSmall)?;
+    row.cells[t] = rest;
+    Ok(rest)
 }
 
 // A member's balance of a token.
@@ -186,48 +124,30 @@ pub fn balance(l: Ledger, member: u32, token: u32) -> Entry
     ensures { result ≡ balance_of l member token }
 {
     if LAST_MEMBER < member {
-        return Entry::Failed(Fault::NoSuchMember);
+        return Err(Fault::NoSuchMember);
     }
     if LAST_TOKEN < token {
-        return Entry::Failed(Fault::NoSuchToken);
+        return Err(Fault::NoSuchToken);
     }
-    Entry::Done(cell_of(row_of(l, member), token))
+    Ok(cell_of(row_of(l, member), token))
 }
 
-// Adds to a balance: the member's row taken out, changed and put back.
-pub fn credit(l: Ledger, member: u32, token: u32, n: Amount) -> Posting
-    ensures { result ≡ credit_of l member token n.0 }
+// Adds to a balance.
+pub fn credit(l: &mut Ledger, member: u32, token: u32, n: Amount) -> Entry
+    ensures { record { entry = result; ledger = l.new } ≡ credit_of l.old member token n.0 }
 {
     if LAST_MEMBER < member {
-        return Posting {
-            entry: Entry::Failed(Fault::NoSuchMember),
-            ledger: l,
-        };
+        return Err(Fault::NoSuchMember);
     }
-    let p = credit_row(row_of(l, member), token, n);
-    let entry = p.entry;
-    let row = p.row;
-    Posting {
-        entry,
-        ledger: with_row(l, member, row),
-    }
+    credit_row(&mut l.rows[member as usize], token, n)
 }
 
 // Takes from a balance.
-pub fn debit(l: Ledger, member: u32, token: u32, n: Amount) -> Posting
-    ensures { result ≡ debit_of l member token n.0 }
+pub fn debit(l: &mut Ledger, member: u32, token: u32, n: Amount) -> Entry
+    ensures { record { entry = result; ledger = l.new } ≡ debit_of l.old member token n.0 }
 {
     if LAST_MEMBER < member {
-        return Posting {
-            entry: Entry::Failed(Fault::NoSuchMember),
-            ledger: l,
-        };
+        return Err(Fault::NoSuchMember);
     }
-    let p = debit_row(row_of(l, member), token, n);
-    let entry = p.entry;
-    let left = p.row;
-    Posting {
-        entry,
-        ledger: with_row(l, member, left),
-    }
+    debit_row(&mut l.rows[member as usize], token, n)
 }

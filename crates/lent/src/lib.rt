@@ -1,4 +1,4 @@
-// The state lent to the call: a host keeps one exchange; each function takes it by &mut, makes the call by value and stores the state after it.
+// The state lent to the call: a host keeps one exchange; each function takes it by &mut, and leaves in it the state after the call.
 #![tactic(auto)]
 
 ghost use Rattle.std.specs.Prelude.{◌≡◌, ◌≤◌, length};
@@ -8,7 +8,7 @@ ghost use Rattle.model.specs.Run.{Reachable, step_of};
 ghost use Rattle.model.specs.OrderLists.{orders_of};
 ghost use Rattle.replay.specs.Lines.{line_text, taken_of};
 
-use exchange::step;
+use exchange::apply;
 use model::answer::Answer;
 use model::call::Call;
 use model::orders::{AnswerPlace, OrderFields};
@@ -21,9 +21,7 @@ pub fn step_lent(x: &mut Exchange, c: Call) -> Answer
     requires { Reachable x.old }
     ensures { (result ≡ (step_of x.old c).answer) × (x.new ≡ (step_of x.old c).exchange) }
 {
-    let o = step(*x, c);
-    *x = o.exchange;
-    o.answer
+    apply(x, c)
 }
 
 // One line, without its byte 10: its answer line is at the start of out, x is the state after it. 21 where out is too short: x and out stay

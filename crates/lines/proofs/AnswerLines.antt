@@ -8,10 +8,8 @@ use lib.ListN.{length, length-append}
 use Rattle.units.specs.Decimal.{digits}
 use Rattle.decimal.proofs.Digits.{digits_most, digits_bound}
 use Rattle.model.specs.declared.answer.Refusal.{Refusal}
-use Rattle.model.specs.declared.answer.Answer.{Answer}
-use Rattle.model.specs.declared.answer.Answer.TheVariants.{Accepted, Refused}
 use Rattle.lines.specs.AnswerText.{longest_answer, accepted_text, refused_text}
-use Rattle.model.specs.Answers.{refusal_code, code_of, first_of, second_of, answer_line}
+use Rattle.model.specs.Answers.{Answer, refusal_code, code_of, first_of, second_of, answer_line}
 
 -- a number and the byte that ends it
 abbrev pub field : ℕ → ℕ → List ℕ
@@ -28,11 +26,11 @@ pub refused_length : (code : ℕ) → length (refused_text code) ≡ length (dig
 refused_length code = simp length-append (omega arith)
 
 -- the line by its case, however it is come by
-pub accepted_line : (n first second : ℕ) (a : Answer) → a ≡ Accepted first second → field n 44 ++ accepted_text first second ≡ answer_line n a
+pub accepted_line : (n first second : ℕ) (a : Answer) → a ≡ Ok (first, second) → field n 44 ++ accepted_text first second ≡ answer_line n a
 unfolding answer_line digits
 accepted_line n first second a e = rw e (append_assoc (digits n) (44 ∷ []) (accepted_text first second))
 
-pub refused_line : (n code : ℕ) (why : Refusal) (a : Answer) → code ≡ refusal_code why → a ≡ Refused why
+pub refused_line : (n code : ℕ) (why : Refusal) (a : Answer) → code ≡ refusal_code why → a ≡ Err why
     → field n 44 ++ refused_text code ≡ answer_line n a
 unfolding answer_line digits
 refused_line n code why a k e = rw (k, e) (append_assoc (digits n) (44 ∷ []) (refused_text (refusal_code why)))
@@ -72,10 +70,10 @@ one_digit = refl
 
 -- ten digits at most for each number; the code of an acceptance has one, that of a refusal at most two, and its numbers have one each
 pub answer_bound : (n : ℕ) (a : Answer) → n < 2 ^ 32 → first_of a < 2 ^ 32 → second_of a < 2 ^ 32 → length (answer_line n a) ≤ longest_answer
-answer_bound n (Accepted first second) hn hf hs =
-    omega (arith, line_length n (Accepted first second), one_digit, digits_bound n hn, digits_bound first hf, digits_bound second hs)
-answer_bound n (Refused why) hn hf hs =
-    omega (arith, line_length n (Refused why), digits_most 1 (refusal_code why) (refusal_bound why), one_digit, digits_bound n hn)
+answer_bound n (Ok (first, second)) hn hf hs =
+    omega (arith, line_length n (Ok (first, second)), one_digit, digits_bound n hn, digits_bound first hf, digits_bound second hs)
+answer_bound n (Err why) hn hf hs =
+    omega (arith, line_length n (Err why), digits_most 1 (refusal_code why) (refusal_bound why), one_digit, digits_bound n hn)
 
 pub answer_pos : (n : ℕ) (a : Answer) → 0 < length (answer_line n a)
 answer_pos n a = omega (arith, line_length n a)

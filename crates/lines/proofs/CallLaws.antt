@@ -18,55 +18,53 @@ use Rattle.fields.specs.Fields.{is_field_byte, field_bytes, fields_end, with_num
 use Rattle.fields.proofs.LineLaws.{stops_short, all_field_bytes, line_short, line_long, numbers_in, numbers_many, fields_stop}
 use Rattle.model.specs.declared.call.Call.{Call}
 use Rattle.model.specs.Kinds.{kinds}
-use Rattle.lines.specs.declared.call.Reading.{Reading}
-use Rattle.lines.specs.declared.call.Reading.TheVariants.{Read, NoCall}
 use Rattle.lines.specs.declared.call.LineAt.{LineAt}
 use Rattle.lines.specs.CallLines.{read_in, of_kind, call_of, call_of_numbers, reading_of, line_in, line_at}
 
 -- ---- the kinds
 
 -- the call that kind j makes of the fields
-pub of_kind_lem : (k j : ℕ) (fields : List ℕ) (c : Call) → read_in kinds j fields ≡ Read c → k ≡ j → Read c ≡ of_kind k fields
+pub of_kind_lem : (k j : ℕ) (fields : List ℕ) (c : Call) → read_in kinds j fields ≡ Some c → k ≡ j → Some c ≡ of_kind k fields
 unfolding of_kind
 of_kind_lem k j fields c e h = sym e ∙ ap (λ (x : ℕ). read_in kinds x fields) (sym h)
 
 -- ---- no kind with so many fields
 
-cond_same : (t : Bool) (r : Reading) → cond t r r ≡ r
+cond_same : (t : Bool) (r : Option Call) → cond t r r ≡ r
 cond_same true r = refl
 cond_same false r = refl
 
-pub no_one : (k a : ℕ) → (k ≡ 6 → ⊥) → (k ≡ 10 → ⊥) → NoCall ≡ of_kind k (a ∷ [])
+pub no_one : (k a : ℕ) → (k ≡ 6 → ⊥) → (k ≡ 10 → ⊥) → None ≡ of_kind k (a ∷ [])
 unfolding of_kind
 no_one k a h6 h10 = simp (ne_eqb k 6 h6, ne_eqb k 10 h10, cond_same)
 
-pub no_two : (k a b : ℕ) → (k ≡ 4 → ⊥) → (k ≡ 7 → ⊥) → (k ≡ 9 → ⊥) → (k ≡ 11 → ⊥) → NoCall ≡ of_kind k (a ∷ (b ∷ []))
+pub no_two : (k a b : ℕ) → (k ≡ 4 → ⊥) → (k ≡ 7 → ⊥) → (k ≡ 9 → ⊥) → (k ≡ 11 → ⊥) → None ≡ of_kind k (a ∷ (b ∷ []))
 unfolding of_kind
 no_two k a b h4 h7 h9 h11 = simp (ne_eqb k 4 h4, ne_eqb k 7 h7, ne_eqb k 9 h9, ne_eqb k 11 h11, cond_same)
 
-pub no_three : (k a b c : ℕ) → (k ≡ 1 → ⊥) → (k ≡ 2 → ⊥) → NoCall ≡ of_kind k (a ∷ (b ∷ (c ∷ [])))
+pub no_three : (k a b c : ℕ) → (k ≡ 1 → ⊥) → (k ≡ 2 → ⊥) → None ≡ of_kind k (a ∷ (b ∷ (c ∷ [])))
 unfolding of_kind
 no_three k a b c h1 h2 = simp (ne_eqb k 1 h1, ne_eqb k 2 h2, cond_same)
 
-pub no_five : (k a b c d e : ℕ) → (k ≡ 5 → ⊥) → NoCall ≡ of_kind k (a ∷ (b ∷ (c ∷ (d ∷ (e ∷ [])))))
+pub no_five : (k a b c d e : ℕ) → (k ≡ 5 → ⊥) → None ≡ of_kind k (a ∷ (b ∷ (c ∷ (d ∷ (e ∷ [])))))
 unfolding of_kind
 no_five k a b c d e h5 = simp (ne_eqb k 5 h5, cond_same)
 
-pub no_six : (k a b c d e f : ℕ) → (k ≡ 3 → ⊥) → (k ≡ 8 → ⊥) → NoCall ≡ of_kind k (a ∷ (b ∷ (c ∷ (d ∷ (e ∷ (f ∷ []))))))
+pub no_six : (k a b c d e f : ℕ) → (k ≡ 3 → ⊥) → (k ≡ 8 → ⊥) → None ≡ of_kind k (a ∷ (b ∷ (c ∷ (d ∷ (e ∷ (f ∷ []))))))
 unfolding of_kind
 no_six k a b c d e f h3 h8 = simp (ne_eqb k 3 h3, ne_eqb k 8 h8, cond_same)
 
 -- ---- the call of so many numbers
 
-pub no_fields : (k : ℕ) → NoCall ≡ of_kind k []
+pub no_fields : (k : ℕ) → None ≡ of_kind k []
 unfolding of_kind
 no_fields k = simp cond_same
 
-pub no_four : (k a b c d : ℕ) → NoCall ≡ of_kind k (a ∷ (b ∷ (c ∷ (d ∷ []))))
+pub no_four : (k a b c d : ℕ) → None ≡ of_kind k (a ∷ (b ∷ (c ∷ (d ∷ []))))
 unfolding of_kind
 no_four k a b c d = simp cond_same
 
-pub no_seven : (k a b c d e f g : ℕ) (ns : List ℕ) → NoCall ≡ of_kind k (a ∷ (b ∷ (c ∷ (d ∷ (e ∷ (f ∷ (g ∷ ns)))))))
+pub no_seven : (k a b c d e f g : ℕ) (ns : List ℕ) → None ≡ of_kind k (a ∷ (b ∷ (c ∷ (d ∷ (e ∷ (f ∷ (g ∷ ns)))))))
 unfolding of_kind
 no_seven k a b c d e f g ns = simp cond_same
 
@@ -93,21 +91,21 @@ take_first k n l q e =
 
 -- no call has one number, five, or eight and more
 pub no_count : (n : ℕ) (l : List ℕ) → length l ≡ 8 → (n ≡ 2 → ⊥) → (n ≡ 3 → ⊥) → (n ≡ 4 → ⊥) → (n ≡ 6 → ⊥) → (n ≡ 7 → ⊥)
-    → NoCall ≡ call_of (take n l)
+    → None ≡ call_of (take n l)
 no_count zero l q h2 h3 h4 h6 h7 = refl
-no_count (suc zero) l q h2 h3 h4 h6 h7 = eight (λ (l : List ℕ). NoCall ≡ call_of (take 1 l)) (λ a b c d e f g h. no_fields a) l q
+no_count (suc zero) l q h2 h3 h4 h6 h7 = eight (λ (l : List ℕ). None ≡ call_of (take 1 l)) (λ a b c d e f g h. no_fields a) l q
 no_count (suc (suc zero)) l q h2 h3 h4 h6 h7 = absurd (h2 refl)
 no_count (suc (suc (suc zero))) l q h2 h3 h4 h6 h7 = absurd (h3 refl)
 no_count (suc (suc (suc (suc zero)))) l q h2 h3 h4 h6 h7 = absurd (h4 refl)
-no_count (suc (suc (suc (suc (suc zero))))) l q h2 h3 h4 h6 h7 = eight (λ (l : List ℕ). NoCall ≡ call_of (take 5 l)) (λ a b c d e f g h. no_four a b c d e) l q
+no_count (suc (suc (suc (suc (suc zero))))) l q h2 h3 h4 h6 h7 = eight (λ (l : List ℕ). None ≡ call_of (take 5 l)) (λ a b c d e f g h. no_four a b c d e) l q
 no_count (suc (suc (suc (suc (suc (suc zero)))))) l q h2 h3 h4 h6 h7 = absurd (h6 refl)
 no_count (suc (suc (suc (suc (suc (suc (suc zero))))))) l q h2 h3 h4 h6 h7 = absurd (h7 refl)
 no_count (suc (suc (suc (suc (suc (suc (suc (suc n)))))))) l q h2 h3 h4 h6 h7 =
-    eight (λ (l : List ℕ). NoCall ≡ call_of l) (λ a b c d e f g h. no_seven a b c d e f g h []) l q
+    eight (λ (l : List ℕ). None ≡ call_of l) (λ a b c d e f g h. no_seven a b c d e f g h []) l q
     ∙ ap call_of (sym (take_all (suc (suc (suc (suc (suc (suc (suc (suc n)))))))) l (omega (arith, q))))
 
 -- nor more numbers than the field reader keeps
-pub no_many : (l : List ℕ) → 8 < length l → NoCall ≡ call_of l
+pub no_many : (l : List ℕ) → 8 < length l → None ≡ call_of l
 no_many [] q = absurd (omega (arith, q))
 no_many (a ∷ []) q = absurd (omega (arith, q))
 no_many (a ∷ (b ∷ [])) q = absurd (omega (arith, q))
@@ -186,11 +184,11 @@ same_end bytes from = rw (← drop-drop (length (field_bytes (drop from bytes)))
 
 -- ---- the call of a line
 
-stops_none : (l : List ℕ) → length (field_bytes l) < length l → NoCall ≡ reading_of l
+stops_none : (l : List ℕ) → length (field_bytes l) < length l → None ≡ reading_of l
 unfolding reading_of line_numbers
 stops_none l h = rw (stops_short l h) (sym (no_numbers (leb (length l) longest_line)))
   where
-    no_numbers : (t : Bool) → call_of_numbers (cond t none none) ≡ NoCall
+    no_numbers : (t : Bool) → call_of_numbers (cond t none none) ≡ None
     no_numbers true = refl
     no_numbers false = refl
 
@@ -210,7 +208,7 @@ stop_is bytes from f e =
 -- it stopped before the line's end: the line has a byte that is neither digit nor comma
 pub line_stops : (bytes : List ℕ) (from end : ℕ) (f : Fields) → f ≡ fields_at bytes from
     → end ≡ f.stop + length (line_in (drop f.stop bytes)) → f.stop < end
-    → ◌≡◌ {A = LineAt} (record { reading = NoCall; end = end }) (line_at bytes from)
+    → ◌≡◌ {A = LineAt} (record { reading = None; end = end }) (line_at bytes from)
 unfolding line_at
 line_stops bytes from end f e n h =
     let same : end ≡ from + length (line_in (drop from bytes)) = n ∙ end_is bytes from f e in
@@ -219,7 +217,7 @@ line_stops bytes from end f e n h =
 
 -- the line is too long
 pub line_too_long : (bytes : List ℕ) (from end : ℕ) → end ≡ from + length (line_in (drop from bytes)) → 80 < end - from
-    → ◌≡◌ {A = LineAt} (record { reading = NoCall; end = end }) (line_at bytes from)
+    → ◌≡◌ {A = LineAt} (record { reading = None; end = end }) (line_at bytes from)
 unfolding line_at reading_of
 line_too_long bytes from end n h =
     let long : 80 < length (line_in (drop from bytes)) = omega arith in
@@ -233,7 +231,7 @@ line_numbers_lem bytes from h =
     ap (λ (l : List ℕ). with_numbers (fields_end bytes from) (all_numbers (parts_of l)))
     (sym (same_bytes (drop from bytes)) ∙ all_field_bytes (line_in (drop from bytes)) h)
 
-pub line_read : (bytes : List ℕ) (from end : ℕ) (f : Fields) (r : Reading) → f ≡ fields_at bytes from
+pub line_read : (bytes : List ℕ) (from end : ℕ) (f : Fields) (r : Option Call) → f ≡ fields_at bytes from
     → end ≡ f.stop + length (line_in (drop f.stop bytes)) → end ≤ f.stop → end - from ≤ 80
     → r ≡ call_of (take f.count f.values)
     → ◌≡◌ {A = LineAt} (record { reading = r; end = end }) (line_at bytes from)
@@ -262,7 +260,7 @@ whole_line (b ∷ l) h =
     let less : length l ≤ length (line_in l) = omega (arith, rw t at h) in
     rw (t, whole_line l less))
 
-pub ten_inside : (l : List ℕ) (a : LineAt) → a ≡ line_at l 0 → a.end < length l → NoCall ≡ reading_of l
+pub ten_inside : (l : List ℕ) (a : LineAt) → a ≡ line_at l 0 → a.end < length l → None ≡ reading_of l
 unfolding line_at
 ten_inside l a e h =
     let same : a.end ≡ 0 + length (line_in l) = ap (λ (x : LineAt). x.end) e in

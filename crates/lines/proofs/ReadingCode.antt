@@ -11,8 +11,6 @@ use Rattle.units.proofs.Cases.{by_test}
 use Rattle.model.specs.declared.call.Call.{Call}
 use Rattle.model.specs.Kinds.{Kind, Taking, from_fields, kinds}
 use Rattle.fields.specs.Grammar.{line_numbers}
-use Rattle.lines.specs.declared.call.Reading.{Reading}
-use Rattle.lines.specs.declared.call.Reading.TheVariants.{Read, NoCall}
 use Rattle.lines.specs.declared.call.LineAt.{LineAt}
 use Rattle.lines.specs.CallLines.{reading, read_in, of_kind, call_of, call_of_numbers, reading_of, line_in, line_at}
 use Rattle.lines.specs.ReadingCode.{reading_code, reading_values, has_kind, is_call, code_in, values_in, line_code, line_values, Tells, ReadingsTell}
@@ -41,11 +39,11 @@ numbers_code (number ∷ fields) = kind_code kinds number fields
 -- ---- the values
 
 -- a reading with a code by a test, and its values by the same test
-by_code : (r : Reading) (t : Bool) (ns : List ℕ) → reading_code r ≡ cond t 0 20 → ((c : Call) → r ≡ Read c → reading_values r ≡ ns) → reading_values r ≡ cond t ns []
-by_code (Read c) true ns e f = f c refl
-by_code (Read c) false ns e f = absurd (omega (arith, e))
-by_code NoCall true ns e f = absurd (omega (arith, e))
-by_code NoCall false ns e f = refl
+by_code : (r : Option Call) (t : Bool) (ns : List ℕ) → reading_code r ≡ cond t 0 20 → ((c : Call) → r ≡ Some c → reading_values r ≡ ns) → reading_values r ≡ cond t ns []
+by_code (Some c) true ns e f = f c refl
+by_code (Some c) false ns e f = absurd (omega (arith, e))
+by_code None true ns e f = absurd (omega (arith, e))
+by_code None false ns e f = refl
 
 numbers_values : (ns : List ℕ) → reading_values (call_of ns) ≡ cond (is_call ns) ns []
 numbers_values ns = by_code (call_of ns) (is_call ns) ns (numbers_code ns) (λ c e. ap reading_values e ∙ numbers_call ns c e)
@@ -61,7 +59,7 @@ unfolding reading_of line_code line_values
 readings_tell line = record { code = (of_numbers (line_numbers line)).0; values = (of_numbers (line_numbers line)).1 }
 
 -- with the equation that names the line
-pub call_told : (line : List ℕ) (r : Reading) → r ≡ reading_of line → (r ≡ reading_of line) × Tells line r
+pub call_told : (line : List ℕ) (r : Option Call) → r ≡ reading_of line → (r ≡ reading_of line) × Tells line r
 call_told line r e = (e, subst (Tells line) (sym e) (readings_tell line))
 
 pub line_told : (bytes : List ℕ) (from : ℕ) (l : LineAt) → l ≡ line_at bytes from

@@ -19,7 +19,6 @@ use Rattle.fields.proofs.LineLaws.{line_short}
 use Rattle.model.specs.declared.call.Call.{Call}
 use Rattle.model.specs.declared.call.Call.TheVariants.{Deposit, Withdraw, Order, Cancel, Open, Enter, Match, Bid, Settle, Claim, Leave}
 use Rattle.model.specs.Kinds.{Taking, Kind, from_fields, kinds, numbers_of_call}
-use Rattle.lines.specs.declared.call.Reading.TheVariants.{Read, NoCall}
 use Rattle.lines.specs.CallLines.{reading, read_in, of_kind, call_of, call_of_numbers, reading_of, line_in, line_at}
 use Rattle.lines.specs.CallText.{join_parts, line_of_numbers, line_of_call, Small, CallRound, LineRound}
 use Rattle.lines.proofs.CallLaws.{whole_line, ten_inside}
@@ -253,7 +252,7 @@ pub record Remade (c : Call) : Type 0 where
   pub fields : List ℕ
   pub is : numbers_of_call c ≡ number ∷ fields
   pub few : length fields ≤ 6
-  pub call : of_kind number fields ≡ Read c
+  pub call : of_kind number fields ≡ Some c
 
 pub remade : (c : Call) → Remade c
 unfolding of_kind
@@ -278,7 +277,7 @@ call_round c s =
     ∙ ap call_of_numbers (numbers_reread r.number r.fields (subst Small r.is s) r.few)
     ∙ r.call
 
-pub no_read : (c : Call) → NoCall ≡ Read c → ⊥
+pub no_read : (c : Call) → None ≡ Some c → ⊥
 no_read c e = let z : ◌≡◌ {A = ℕ} 0 1 = cc in omega arith
 
 -- a call's line has no byte 10, since it is read
@@ -295,7 +294,7 @@ abbrev Writes : (n : ℕ) → Taking n → List ℕ → Type 0
 Writes zero c ns = numbers_of_call c ≡ ns
 Writes (suc n) f ns = (a : ℕ) → Writes n (f a) (ns ++ (a ∷ []))
 
-fields_written : (n : ℕ) (f : Taking n) (ns : List ℕ) → Writes n f ns → (fields : List ℕ) (c : Call) → reading (from_fields n f fields) ≡ Read c → numbers_of_call c ≡ ns ++ fields
+fields_written : (n : ℕ) (f : Taking n) (ns : List ℕ) → Writes n f ns → (fields : List ℕ) (c : Call) → reading (from_fields n f fields) ≡ Some c → numbers_of_call c ≡ ns ++ fields
 fields_written zero d ns w [] c e = let same : c ≡ d = cc in ap numbers_of_call same ∙ w ∙ sym (append-nil ns)
 fields_written zero d ns w (a ∷ fields) c e = absurd (no_read c e)
 fields_written (suc n) f ns w [] c e = absurd (no_read c e)
@@ -310,7 +309,7 @@ kinds_write : AllWrite kinds
 kinds_write =
     (λ a b c. refl, (λ a b c. refl, (λ a b c d e f. refl, (λ a b. refl, (λ a b c d e. refl, (λ a. refl, (λ a b. refl, (λ a b c d e f. refl, (λ a b. refl, (λ a. refl, (λ a b. refl, tt)))))))))))
 
-kind_written : (ks : List Kind) → AllWrite ks → (number : ℕ) (fields : List ℕ) (c : Call) → read_in ks number fields ≡ Read c → numbers_of_call c ≡ number ∷ fields
+kind_written : (ks : List Kind) → AllWrite ks → (number : ℕ) (fields : List ℕ) (c : Call) → read_in ks number fields ≡ Some c → numbers_of_call c ≡ number ∷ fields
 kind_written [] w number fields c e = absurd (no_read c e)
 kind_written (k ∷ ks) w number fields c e =
     by_test (eqb number k.number)
@@ -319,7 +318,7 @@ kind_written (k ∷ ks) w number fields c e =
     ∙ ap (λ (x : ℕ). x ∷ fields) (sym (eqb-true number k.number t)))
     (λ t. kind_written ks w.1 number fields c (rw t at e))
 
-pub numbers_call : (ns : List ℕ) (c : Call) → call_of ns ≡ Read c → numbers_of_call c ≡ ns
+pub numbers_call : (ns : List ℕ) (c : Call) → call_of ns ≡ Some c → numbers_of_call c ≡ ns
 unfolding of_kind
 numbers_call [] c e = absurd (no_read c e)
 numbers_call (number ∷ fields) c e = kind_written kinds kinds_write number fields c e

@@ -1,10 +1,9 @@
 -- The line that a call is written as, without its byte 10 and with it.
-use Rattle.std.specs.Prelude.{ℕ, ◌≤◌, ◌≡◌, List, [], ◌∷◌, ◌++◌, map}
+use Rattle.std.specs.Prelude.{ℕ, ◌≤◌, ◌≡◌, List, [], ◌∷◌, ◌++◌, map, Some}
 use Rattle.units.specs.Counts.{largest}
 use Rattle.units.specs.Decimal.{digits}
 use Rattle.model.specs.declared.call.Call.{Call}
 use Rattle.model.specs.Kinds.{numbers_of_call}
-use Rattle.lines.specs.declared.call.Reading.TheVariants.{Read}
 use Rattle.lines.specs.CallLines.{reading_of}
 
 -- parts with a comma between each two
@@ -32,8 +31,8 @@ Small (n ∷ ns) = (n ≤ largest) × Small ns
 
 -- a call's line is read as that call
 abbrev pub CallRound : Type 0
-CallRound = (c : Call) → Small (numbers_of_call c) → reading_of (line_of_call c) ≡ Read c
+CallRound = (c : Call) → Small (numbers_of_call c) → reading_of (line_of_call c) ≡ Some c
 
 -- and no other line is
 abbrev pub LineRound : Type 0
-LineRound = (line : List ℕ) (c : Call) → reading_of line ≡ Read c → line_of_call c ≡ line
+LineRound = (line : List ℕ) (c : Call) → reading_of line ≡ Some c → line_of_call c ≡ line

@@ -1,55 +1,53 @@
 -- Lines and the calls that they are, and answer lines, worked by hand.
-use Rattle.std.specs.Prelude.{ℕ, ◌+◌, List, [], ◌∷◌, ◌++◌, replicate}
+use Rattle.std.specs.Prelude.{ℕ, ◌+◌, List, [], ◌∷◌, ◌++◌, replicate, Some, None, Option}
 use Rattle.model.specs.declared.answer.Refusal.{Refusal}
 use Rattle.model.specs.declared.answer.Refusal.TheVariants.{NoSuchMember, WrongTicketState, BadTerms, InsufficientBalance, BufferTooShort}
 use Rattle.model.specs.declared.call.Call.{Call}
 use Rattle.model.specs.declared.call.Call.TheVariants.{Deposit, Withdraw, Order, Cancel, Open, Enter, Match, Bid, Settle, Claim, Leave}
-use Rattle.lines.specs.declared.call.Reading.{Reading}
-use Rattle.lines.specs.declared.call.Reading.TheVariants.{Read, NoCall}
 use Rattle.lines.specs.declared.call.LineAt.{LineAt}
 use Rattle.lines.specs.CallLines.{line_at}
 
 -- a line's bytes, what it is read as, and its code
 pub record LineRead : Type 0 where
   pub bytes : List ℕ
-  pub reading : Reading
+  pub reading : Option Call
   pub code : ℕ
 
-abbrev reads : List ℕ → Reading → ℕ → LineRead
+abbrev reads : List ℕ → Option Call → ℕ → LineRead
 reads bytes reading code = record { bytes = bytes; reading = reading; code = code }
 
 unfoldable pub lines_read : List LineRead
 lines_read =
-    reads [] NoCall 20  -- an empty line
-    ∷ reads (49 ∷ 44 ∷ 48 ∷ 44 ∷ 48 ∷ 44 ∷ 49 ∷ 48 ∷ 48 ∷ 48 ∷ []) (Read (Deposit 0 0 1000)) 0  -- 1,0,0,1000
-    ∷ reads (50 ∷ 44 ∷ 49 ∷ 53 ∷ 44 ∷ 51 ∷ 44 ∷ 52 ∷ 50 ∷ 57 ∷ 52 ∷ 57 ∷ 54 ∷ 55 ∷ 50 ∷ 57 ∷ 53 ∷ []) (Read (Withdraw 15 3 4294967295)) 0  -- 2,15,3,4294967295
-    ∷ reads (51 ∷ 44 ∷ 48 ∷ 44 ∷ 48 ∷ 44 ∷ 49 ∷ 44 ∷ 48 ∷ 44 ∷ 51 ∷ 48 ∷ 48 ∷ 48 ∷ 48 ∷ 48 ∷ 48 ∷ 44 ∷ 54 ∷ 48 ∷ 48 ∷ []) (Read (Order 0 0 1 0 3000000 600)) 0  -- 3,0,0,1,0,3000000,600
-    ∷ reads (52 ∷ 44 ∷ 54 ∷ 51 ∷ 44 ∷ 55 ∷ []) (Read (Cancel 63 7)) 0  -- 4,63,7
-    ∷ reads (53 ∷ 44 ∷ 49 ∷ 44 ∷ 49 ∷ 48 ∷ 44 ∷ 50 ∷ 53 ∷ 48 ∷ 48 ∷ 48 ∷ 48 ∷ 48 ∷ 44 ∷ 49 ∷ 48 ∷ 48 ∷ 48 ∷ 48 ∷ 48 ∷ 44 ∷ 49 ∷ 48 ∷ []) (Read (Open 1 10 2500000 100000 10)) 0  -- 5,1,10,2500000,100000,10
-    ∷ reads (54 ∷ 44 ∷ 48 ∷ []) (Read (Enter 0)) 0  -- 6,0
-    ∷ reads (55 ∷ 44 ∷ 49 ∷ 44 ∷ 49 ∷ 52 ∷ []) (Read (Match 1 14)) 0  -- 7,1,14
-    ∷ reads (56 ∷ 44 ∷ 49 ∷ 44 ∷ 50 ∷ 44 ∷ 49 ∷ 57 ∷ 44 ∷ 49 ∷ 44 ∷ 54 ∷ 48 ∷ 44 ∷ 49 ∷ 54 ∷ 48 ∷ []) (Read (Bid 1 2 19 1 60 160)) 0  -- 8,1,2,19,1,60,160
-    ∷ reads (57 ∷ 44 ∷ 49 ∷ 44 ∷ 49 ∷ 57 ∷ []) (Read (Settle 1 19)) 0  -- 9,1,19
-    ∷ reads (49 ∷ 48 ∷ 44 ∷ 54 ∷ 51 ∷ []) (Read (Claim 63)) 0  -- 10,63
-    ∷ reads (49 ∷ 49 ∷ 44 ∷ 48 ∷ 44 ∷ 48 ∷ []) (Read (Leave 0 0)) 0  -- 11,0,0
-    ∷ reads (48 ∷ 49 ∷ 44 ∷ 48 ∷ 44 ∷ 48 ∷ 44 ∷ 53 ∷ []) NoCall 20  -- 01,0,0,5
-    ∷ reads (49 ∷ 44 ∷ 48 ∷ 48 ∷ 44 ∷ 48 ∷ 44 ∷ 53 ∷ []) NoCall 20  -- 1,00,0,5
-    ∷ reads (54 ∷ 44 ∷ 48 ∷ 55 ∷ []) NoCall 20  -- 6,07
-    ∷ reads (54 ∷ 44 ∷ 52 ∷ 50 ∷ 57 ∷ 52 ∷ 57 ∷ 54 ∷ 55 ∷ 50 ∷ 57 ∷ 54 ∷ []) NoCall 20  -- 6,4294967296
-    ∷ reads (54 ∷ 44 ∷ []) NoCall 20  -- 6,
-    ∷ reads (44 ∷ 54 ∷ []) NoCall 20  -- ,6
-    ∷ reads (54 ∷ 44 ∷ 44 ∷ 49 ∷ []) NoCall 20  -- 6,,1
-    ∷ reads (54 ∷ 44 ∷ 49 ∷ 44 ∷ 50 ∷ []) NoCall 20  -- 6,1,2
-    ∷ reads (54 ∷ []) NoCall 20  -- 6
-    ∷ reads (49 ∷ 44 ∷ 48 ∷ 44 ∷ 48 ∷ []) NoCall 20  -- 1,0,0
-    ∷ reads (48 ∷ 44 ∷ 49 ∷ []) NoCall 20  -- 0,1
-    ∷ reads (49 ∷ 49 ∷ 44 ∷ 49 ∷ []) NoCall 20  -- 11,1
-    ∷ reads (49 ∷ 49 ∷ 44 ∷ 49 ∷ 44 ∷ 50 ∷ 44 ∷ 51 ∷ []) NoCall 20  -- 11,1,2,3
-    ∷ reads (49 ∷ 50 ∷ 44 ∷ 49 ∷ 44 ∷ 50 ∷ []) NoCall 20  -- 12,1,2
-    ∷ reads (54 ∷ 44 ∷ 49 ∷ 13 ∷ []) NoCall 20  -- 6,1CR
-    ∷ reads (54 ∷ 44 ∷ 32 ∷ 49 ∷ []) NoCall 20  -- 6, 1
-    ∷ reads (54 ∷ 44 ∷ 43 ∷ 49 ∷ []) NoCall 20  -- 6,+1
-    ∷ reads (54 ∷ 44 ∷ 49 ∷ 0 ∷ []) NoCall 20  -- 6,1NUL
+    reads [] None 20  -- an empty line
+    ∷ reads (49 ∷ 44 ∷ 48 ∷ 44 ∷ 48 ∷ 44 ∷ 49 ∷ 48 ∷ 48 ∷ 48 ∷ []) (Some (Deposit 0 0 1000)) 0  -- 1,0,0,1000
+    ∷ reads (50 ∷ 44 ∷ 49 ∷ 53 ∷ 44 ∷ 51 ∷ 44 ∷ 52 ∷ 50 ∷ 57 ∷ 52 ∷ 57 ∷ 54 ∷ 55 ∷ 50 ∷ 57 ∷ 53 ∷ []) (Some (Withdraw 15 3 4294967295)) 0  -- 2,15,3,4294967295
+    ∷ reads (51 ∷ 44 ∷ 48 ∷ 44 ∷ 48 ∷ 44 ∷ 49 ∷ 44 ∷ 48 ∷ 44 ∷ 51 ∷ 48 ∷ 48 ∷ 48 ∷ 48 ∷ 48 ∷ 48 ∷ 44 ∷ 54 ∷ 48 ∷ 48 ∷ []) (Some (Order 0 0 1 0 3000000 600)) 0  -- 3,0,0,1,0,3000000,600
+    ∷ reads (52 ∷ 44 ∷ 54 ∷ 51 ∷ 44 ∷ 55 ∷ []) (Some (Cancel 63 7)) 0  -- 4,63,7
+    ∷ reads (53 ∷ 44 ∷ 49 ∷ 44 ∷ 49 ∷ 48 ∷ 44 ∷ 50 ∷ 53 ∷ 48 ∷ 48 ∷ 48 ∷ 48 ∷ 48 ∷ 44 ∷ 49 ∷ 48 ∷ 48 ∷ 48 ∷ 48 ∷ 48 ∷ 44 ∷ 49 ∷ 48 ∷ []) (Some (Open 1 10 2500000 100000 10)) 0  -- 5,1,10,2500000,100000,10
+    ∷ reads (54 ∷ 44 ∷ 48 ∷ []) (Some (Enter 0)) 0  -- 6,0
+    ∷ reads (55 ∷ 44 ∷ 49 ∷ 44 ∷ 49 ∷ 52 ∷ []) (Some (Match 1 14)) 0  -- 7,1,14
+    ∷ reads (56 ∷ 44 ∷ 49 ∷ 44 ∷ 50 ∷ 44 ∷ 49 ∷ 57 ∷ 44 ∷ 49 ∷ 44 ∷ 54 ∷ 48 ∷ 44 ∷ 49 ∷ 54 ∷ 48 ∷ []) (Some (Bid 1 2 19 1 60 160)) 0  -- 8,1,2,19,1,60,160
+    ∷ reads (57 ∷ 44 ∷ 49 ∷ 44 ∷ 49 ∷ 57 ∷ []) (Some (Settle 1 19)) 0  -- 9,1,19
+    ∷ reads (49 ∷ 48 ∷ 44 ∷ 54 ∷ 51 ∷ []) (Some (Claim 63)) 0  -- 10,63
+    ∷ reads (49 ∷ 49 ∷ 44 ∷ 48 ∷ 44 ∷ 48 ∷ []) (Some (Leave 0 0)) 0  -- 11,0,0
+    ∷ reads (48 ∷ 49 ∷ 44 ∷ 48 ∷ 44 ∷ 48 ∷ 44 ∷ 53 ∷ []) None 20  -- 01,0,0,5
+    ∷ reads (49 ∷ 44 ∷ 48 ∷ 48 ∷ 44 ∷ 48 ∷ 44 ∷ 53 ∷ []) None 20  -- 1,00,0,5
+    ∷ reads (54 ∷ 44 ∷ 48 ∷ 55 ∷ []) None 20  -- 6,07
+    ∷ reads (54 ∷ 44 ∷ 52 ∷ 50 ∷ 57 ∷ 52 ∷ 57 ∷ 54 ∷ 55 ∷ 50 ∷ 57 ∷ 54 ∷ []) None 20  -- 6,4294967296
+    ∷ reads (54 ∷ 44 ∷ []) None 20  -- 6,
+    ∷ reads (44 ∷ 54 ∷ []) None 20  -- ,6
+    ∷ reads (54 ∷ 44 ∷ 44 ∷ 49 ∷ []) None 20  -- 6,,1
+    ∷ reads (54 ∷ 44 ∷ 49 ∷ 44 ∷ 50 ∷ []) None 20  -- 6,1,2
+    ∷ reads (54 ∷ []) None 20  -- 6
+    ∷ reads (49 ∷ 44 ∷ 48 ∷ 44 ∷ 48 ∷ []) None 20  -- 1,0,0
+    ∷ reads (48 ∷ 44 ∷ 49 ∷ []) None 20  -- 0,1
+    ∷ reads (49 ∷ 49 ∷ 44 ∷ 49 ∷ []) None 20  -- 11,1
+    ∷ reads (49 ∷ 49 ∷ 44 ∷ 49 ∷ 44 ∷ 50 ∷ 44 ∷ 51 ∷ []) None 20  -- 11,1,2,3
+    ∷ reads (49 ∷ 50 ∷ 44 ∷ 49 ∷ 44 ∷ 50 ∷ []) None 20  -- 12,1,2
+    ∷ reads (54 ∷ 44 ∷ 49 ∷ 13 ∷ []) None 20  -- 6,1CR
+    ∷ reads (54 ∷ 44 ∷ 32 ∷ 49 ∷ []) None 20  -- 6, 1
+    ∷ reads (54 ∷ 44 ∷ 43 ∷ 49 ∷ []) None 20  -- 6,+1
+    ∷ reads (54 ∷ 44 ∷ 49 ∷ 0 ∷ []) None 20  -- 6,1NUL
     ∷ []
 
 -- ---- each kind
@@ -127,19 +125,19 @@ no_calls =
 -- ---- lines in an input
 
 -- bytes, a place, what is read of the line that begins there, and where it ends
-unfoldable pub lines_at : List (List ℕ × ℕ × Reading × ℕ)
+unfoldable pub lines_at : List (List ℕ × ℕ × (Option Call) × ℕ)
 lines_at =
-    ((54 ∷ 44 ∷ 49 ∷ 10 ∷ 54 ∷ 44 ∷ 50 ∷ 50 ∷ 10 ∷ 10 ∷ 55 ∷ 44 ∷ 51 ∷ 44 ∷ 49 ∷ 52 ∷ []), 0, Read (Enter 1), 3)  -- 6,1LF 6,22LF LF 7,3,14
-    ∷ ((54 ∷ 44 ∷ 49 ∷ 10 ∷ 54 ∷ 44 ∷ 50 ∷ 50 ∷ 10 ∷ 10 ∷ 55 ∷ 44 ∷ 51 ∷ 44 ∷ 49 ∷ 52 ∷ []), 2, NoCall, 3)  -- 6,1LF 6,22LF LF 7,3,14
-    ∷ ((54 ∷ 44 ∷ 49 ∷ 10 ∷ 54 ∷ 44 ∷ 50 ∷ 50 ∷ 10 ∷ 10 ∷ 55 ∷ 44 ∷ 51 ∷ 44 ∷ 49 ∷ 52 ∷ []), 3, NoCall, 3)  -- 6,1LF 6,22LF LF 7,3,14
-    ∷ ((54 ∷ 44 ∷ 49 ∷ 10 ∷ 54 ∷ 44 ∷ 50 ∷ 50 ∷ 10 ∷ 10 ∷ 55 ∷ 44 ∷ 51 ∷ 44 ∷ 49 ∷ 52 ∷ []), 4, Read (Enter 22), 8)  -- 6,1LF 6,22LF LF 7,3,14
-    ∷ ((54 ∷ 44 ∷ 49 ∷ 10 ∷ 54 ∷ 44 ∷ 50 ∷ 50 ∷ 10 ∷ 10 ∷ 55 ∷ 44 ∷ 51 ∷ 44 ∷ 49 ∷ 52 ∷ []), 8, NoCall, 8)  -- 6,1LF 6,22LF LF 7,3,14
-    ∷ ((54 ∷ 44 ∷ 49 ∷ 10 ∷ 54 ∷ 44 ∷ 50 ∷ 50 ∷ 10 ∷ 10 ∷ 55 ∷ 44 ∷ 51 ∷ 44 ∷ 49 ∷ 52 ∷ []), 9, NoCall, 9)  -- 6,1LF 6,22LF LF 7,3,14
-    ∷ ((54 ∷ 44 ∷ 49 ∷ 10 ∷ 54 ∷ 44 ∷ 50 ∷ 50 ∷ 10 ∷ 10 ∷ 55 ∷ 44 ∷ 51 ∷ 44 ∷ 49 ∷ 52 ∷ []), 10, Read (Match 3 14), 16)  -- 6,1LF 6,22LF LF 7,3,14
-    ∷ ((54 ∷ 44 ∷ 49 ∷ 10 ∷ 54 ∷ 44 ∷ 50 ∷ 50 ∷ 10 ∷ 10 ∷ 55 ∷ 44 ∷ 51 ∷ 44 ∷ 49 ∷ 52 ∷ []), 16, NoCall, 16)  -- 6,1LF 6,22LF LF 7,3,14
-    ∷ ((54 ∷ 44 ∷ 49 ∷ 10 ∷ 54 ∷ 44 ∷ 50 ∷ 50 ∷ 10 ∷ 10 ∷ 55 ∷ 44 ∷ 51 ∷ 44 ∷ 49 ∷ 52 ∷ []), 17, NoCall, 17)  -- 6,1LF 6,22LF LF 7,3,14
-    ∷ ((54 ∷ 44 ∷ 49 ∷ 9 ∷ 10 ∷ []), 0, NoCall, 4)  -- 6,1TAB LF
-    ∷ ((54 ∷ 44 ∷ 49 ∷ 11 ∷ 10 ∷ []), 0, NoCall, 4)  -- 6,1VT LF
+    ((54 ∷ 44 ∷ 49 ∷ 10 ∷ 54 ∷ 44 ∷ 50 ∷ 50 ∷ 10 ∷ 10 ∷ 55 ∷ 44 ∷ 51 ∷ 44 ∷ 49 ∷ 52 ∷ []), 0, Some (Enter 1), 3)  -- 6,1LF 6,22LF LF 7,3,14
+    ∷ ((54 ∷ 44 ∷ 49 ∷ 10 ∷ 54 ∷ 44 ∷ 50 ∷ 50 ∷ 10 ∷ 10 ∷ 55 ∷ 44 ∷ 51 ∷ 44 ∷ 49 ∷ 52 ∷ []), 2, None, 3)  -- 6,1LF 6,22LF LF 7,3,14
+    ∷ ((54 ∷ 44 ∷ 49 ∷ 10 ∷ 54 ∷ 44 ∷ 50 ∷ 50 ∷ 10 ∷ 10 ∷ 55 ∷ 44 ∷ 51 ∷ 44 ∷ 49 ∷ 52 ∷ []), 3, None, 3)  -- 6,1LF 6,22LF LF 7,3,14
+    ∷ ((54 ∷ 44 ∷ 49 ∷ 10 ∷ 54 ∷ 44 ∷ 50 ∷ 50 ∷ 10 ∷ 10 ∷ 55 ∷ 44 ∷ 51 ∷ 44 ∷ 49 ∷ 52 ∷ []), 4, Some (Enter 22), 8)  -- 6,1LF 6,22LF LF 7,3,14
+    ∷ ((54 ∷ 44 ∷ 49 ∷ 10 ∷ 54 ∷ 44 ∷ 50 ∷ 50 ∷ 10 ∷ 10 ∷ 55 ∷ 44 ∷ 51 ∷ 44 ∷ 49 ∷ 52 ∷ []), 8, None, 8)  -- 6,1LF 6,22LF LF 7,3,14
+    ∷ ((54 ∷ 44 ∷ 49 ∷ 10 ∷ 54 ∷ 44 ∷ 50 ∷ 50 ∷ 10 ∷ 10 ∷ 55 ∷ 44 ∷ 51 ∷ 44 ∷ 49 ∷ 52 ∷ []), 9, None, 9)  -- 6,1LF 6,22LF LF 7,3,14
+    ∷ ((54 ∷ 44 ∷ 49 ∷ 10 ∷ 54 ∷ 44 ∷ 50 ∷ 50 ∷ 10 ∷ 10 ∷ 55 ∷ 44 ∷ 51 ∷ 44 ∷ 49 ∷ 52 ∷ []), 10, Some (Match 3 14), 16)  -- 6,1LF 6,22LF LF 7,3,14
+    ∷ ((54 ∷ 44 ∷ 49 ∷ 10 ∷ 54 ∷ 44 ∷ 50 ∷ 50 ∷ 10 ∷ 10 ∷ 55 ∷ 44 ∷ 51 ∷ 44 ∷ 49 ∷ 52 ∷ []), 16, None, 16)  -- 6,1LF 6,22LF LF 7,3,14
+    ∷ ((54 ∷ 44 ∷ 49 ∷ 10 ∷ 54 ∷ 44 ∷ 50 ∷ 50 ∷ 10 ∷ 10 ∷ 55 ∷ 44 ∷ 51 ∷ 44 ∷ 49 ∷ 52 ∷ []), 17, None, 17)  -- 6,1LF 6,22LF LF 7,3,14
+    ∷ ((54 ∷ 44 ∷ 49 ∷ 9 ∷ 10 ∷ []), 0, None, 4)  -- 6,1TAB LF
+    ∷ ((54 ∷ 44 ∷ 49 ∷ 11 ∷ 10 ∷ []), 0, None, 4)  -- 6,1VT LF
     ∷ []
 
 -- a line, then byte 10 and the call 6,1
@@ -153,7 +151,7 @@ long_at bytes line = line_at line 0 ∷ line_at (then_call line) 0 ∷ line_at (
 -- what is read of each, and where it ends
 abbrev pub read_at : ℕ → List LineAt
 read_at bytes =
-    record { reading = NoCall; end = bytes } ∷ record { reading = NoCall; end = bytes } ∷ record { reading = Read (Enter 1); end = bytes + 4 } ∷ []
+    record { reading = None; end = bytes } ∷ record { reading = None; end = bytes } ∷ record { reading = Some (Enter 1); end = bytes + 4 } ∷ []
 
 -- 78 digits 1 and then 6,1: from its first byte the line has 81 bytes and is no call, from its 79th on it is one
 abbrev pub long_tail : List ℕ

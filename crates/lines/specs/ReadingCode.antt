@@ -1,21 +1,20 @@
 -- What a reading tells, in the paper's numbers. "Any answer that is an enum has a definition. The definition gives this paper's number and values
 -- for each of the enum's cases, and the promises use it."
-use Rattle.std.specs.Prelude.{ℕ, ◌≡◌, Bool, false, cond, List, [], ◌∷◌, length, eqb}
+use Rattle.std.specs.Prelude.{ℕ, ◌≡◌, Bool, false, cond, List, [], ◌∷◌, length, eqb, Some, None, Option}
 use Rattle.std.proofs.Math.Option.{Option, some, none}
+use Rattle.model.specs.declared.call.Call.{Call}
 use Rattle.model.specs.Kinds.{Kind, kinds, numbers_of_call}
 use Rattle.fields.specs.Grammar.{line_numbers}
-use Rattle.lines.specs.declared.call.Reading.{Reading}
-use Rattle.lines.specs.declared.call.Reading.TheVariants.{Read, NoCall}
 use Rattle.lines.specs.CallLines.{reading_of}
 
 -- 0 for a call, whose values are its kind's number and its fields; 20 for none, which has no values
-abbrev pub reading_code : Reading → ℕ
-reading_code (Read c) = 0
-reading_code NoCall = 20
+abbrev pub reading_code : Option Call → ℕ
+reading_code (Some c) = 0
+reading_code None = 20
 
-abbrev pub reading_values : Reading → List ℕ
-reading_values (Read c) = numbers_of_call c
-reading_values NoCall = []
+abbrev pub reading_values : Option Call → List ℕ
+reading_values (Some c) = numbers_of_call c
+reading_values None = []
 
 -- ---- the same by the bytes of a line, without its byte 10
 
@@ -44,7 +43,7 @@ unfoldable pub line_values : List ℕ → List ℕ
 line_values line = values_in (line_numbers line)
 
 -- a reading tells this of a line
-pub record Tells (line : List ℕ) (r : Reading) : Type 0 where
+pub record Tells (line : List ℕ) (r : Option Call) : Type 0 where
   pub code : reading_code r ≡ line_code line
   pub values : reading_values r ≡ line_values line
 

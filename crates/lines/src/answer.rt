@@ -66,8 +66,8 @@ pub fn write_answer(out: &mut [u8], number: u32, a: Answer) -> usize
     }
     let next = write_field(out, 0, number, b',');
     match a {
-        Answer::Accepted(first, second) => write_accepted(out, next, first, second),
-        Answer::Refused(why) => write_refused(out, next, answer::refusal_code(why)),
+        Ok((first, second)) => write_accepted(out, next, first, second),
+        Err(why) => write_refused(out, next, answer::refusal_code(why)),
     }
 }
 

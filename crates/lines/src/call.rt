@@ -6,107 +6,100 @@ ghost use Rattle.lines.specs.ReadingCode.{reading_code, Tells};
 use fields::{Fields, read_fields};
 use model::call::Call;
 
-// A line read: the call that it is, or no call (20).
-#[derive(Clone, Copy)]
-pub enum Reading {
-    Read(Call),
-    NoCall,
-}
-
-// A line of an input, and the place where it ends: that of its byte 10, or the input's end.
+// A line of an input: the call that it is, or no call (20); and the place where it ends: that of its byte 10, or the input's end.
 #[derive(Clone, Copy)]
 pub struct LineAt {
-    pub reading: Reading,
+    pub reading: Option<Call>,
     pub end: usize,
 }
 
 const LONGEST_LINE: usize = 80;
 
 // The paper's number of a reading: 0 where it is a call, 20 where it is none.
-pub fn reading_code(r: Reading) -> u32
+pub fn reading_code(r: Option<Call>) -> u32
     ensures { result ≡ reading_code r }
 {
     match r {
-        Reading::Read(_) => 0,
-        Reading::NoCall => 20,
+        Some(_) => 0,
+        None => 20,
     }
 }
 
 // The call with one field.
 #[tactic(auto, unfolding(crate::specs::CallLines::of_kind))]
-fn with_1(kind: u32, a: u32) -> Reading
+fn with_1(kind: u32, a: u32) -> Option<Call>
     ensures { result ≡ call_of («kind» ∷ («a» ∷ [])) }
 {
     if kind == 6 {
-        return Reading::Read(Call::Enter { ticket: a });
+        return Some(Call::Enter { ticket: a });
     }
     if kind == 10 {
-        return Reading::Read(Call::Claim { ticket: a });
+        return Some(Call::Claim { ticket: a });
     }
-    Reading::NoCall
+    None
 }
 
 // The call with two fields.
 #[tactic(auto, unfolding(crate::specs::CallLines::of_kind))]
-fn with_2(kind: u32, a: u32, b: u32) -> Reading
+fn with_2(kind: u32, a: u32, b: u32) -> Option<Call>
     ensures { result ≡ call_of («kind» ∷ («a» ∷ («b» ∷ []))) }
 {
     if kind == 4 {
-        return Reading::Read(Call::Cancel {
+        return Some(Call::Cancel {
             ticket: a,
             member: b,
         });
     }
     if kind == 7 {
-        return Reading::Read(Call::Match {
+        return Some(Call::Match {
             market: a,
             block: b,
         });
     }
     if kind == 9 {
-        return Reading::Read(Call::Settle {
+        return Some(Call::Settle {
             market: a,
             block: b,
         });
     }
     if kind == 11 {
-        return Reading::Read(Call::Leave {
+        return Some(Call::Leave {
             ticket: a,
             member: b,
         });
     }
-    Reading::NoCall
+    None
 }
 
 // The call with three fields.
 #[tactic(auto, unfolding(crate::specs::CallLines::of_kind))]
-fn with_3(kind: u32, a: u32, b: u32, c: u32) -> Reading
+fn with_3(kind: u32, a: u32, b: u32, c: u32) -> Option<Call>
     ensures { result ≡ call_of («kind» ∷ («a» ∷ («b» ∷ («c» ∷ [])))) }
 {
     if kind == 1 {
-        return Reading::Read(Call::Deposit {
+        return Some(Call::Deposit {
             member: a,
             token: b,
             amount: c,
         });
     }
     if kind == 2 {
-        return Reading::Read(Call::Withdraw {
+        return Some(Call::Withdraw {
             member: a,
             token: b,
             amount: c,
         });
     }
-    Reading::NoCall
+    None
 }
 
 // The call with five fields.
 #[tactic(auto, unfolding(crate::specs::CallLines::of_kind))]
-fn with_5(kind: u32, a: u32, b: u32, c: u32, d: u32, e: u32) -> Reading
+fn with_5(kind: u32, a: u32, b: u32, c: u32, d: u32, e: u32) -> Option<Call>
     ensures { result ≡ call_of («kind» ∷ («a» ∷ («b» ∷ («c» ∷ («d» ∷ («e» ∷ [])))))) }
 {
     if kind == 5 {
-        return Reading::Read(Call::Open {
+        return Some(Call::Open {
             market: a,
             block: b,
             reference: c,
@@ -114,16 +107,16 @@ fn with_5(kind: u32, a: u32, b: u32, c: u32, d: u32, e: u32) -> Reading
             length: e,
         });
     }
-    Reading::NoCall
+    None
 }
 
 // The call with six fields.
 #[tactic(auto, unfolding(crate::specs::CallLines::of_kind))]
-fn with_6(kind: u32, a: u32, b: u32, c: u32, d: u32, e: u32, f: u32) -> Reading
+fn with_6(kind: u32, a: u32, b: u32, c: u32, d: u32, e: u32, f: u32) -> Option<Call>
     ensures { result ≡ call_of («kind» ∷ («a» ∷ («b» ∷ («c» ∷ («d» ∷ («e» ∷ («f» ∷ []))))))) }
 {
     if kind == 3 {
-        return Reading::Read(Call::Order {
+        return Some(Call::Order {
             ticket: a,
             member: b,
             market: c,
@@ -133,7 +126,7 @@ fn with_6(kind: u32, a: u32, b: u32, c: u32, d: u32, e: u32, f: u32) -> Reading
         });
     }
     if kind == 8 {
-        return Reading::Read(Call::Bid {
+        return Some(Call::Bid {
             market: a,
             member: b,
             block: c,
@@ -142,11 +135,11 @@ fn with_6(kind: u32, a: u32, b: u32, c: u32, d: u32, e: u32, f: u32) -> Reading
             bound: f,
         });
     }
-    Reading::NoCall
+    None
 }
 
 // The call of the numbers that the field reader found. It looks at neither the line's length nor where the reader stopped: read_line does.
-pub fn call_of(f: Fields) -> Reading
+pub fn call_of(f: Fields) -> Option<Call>
     ensures { result ≡ call_of (take f.count f.values) }
 {
     let v = f.values;
@@ -165,7 +158,7 @@ pub fn call_of(f: Fields) -> Reading
     if f.count == 7 {
         return with_6(v[0], v[1], v[2], v[3], v[4], v[5], v[6]);
     }
-    Reading::NoCall
+    None
 }
 
 // The place of the first byte 10 from a place on, or the end.
@@ -192,13 +185,13 @@ pub fn read_line(bytes: &[u8], from: usize) -> LineAt
     let end = line_end(bytes, f.stop);
     if f.stop < end {
         return LineAt {
-            reading: Reading::NoCall,
+            reading: None,
             end,
         };
     }
     if LONGEST_LINE < end - from {
         return LineAt {
-            reading: Reading::NoCall,
+            reading: None,
             end,
         };
     }
@@ -209,13 +202,13 @@ pub fn read_line(bytes: &[u8], from: usize) -> LineAt
 }
 
 // Reads a line that stands alone, without its byte 10.
-pub fn read_call(line: &[u8]) -> Reading
+pub fn read_call(line: &[u8]) -> Option<Call>
     ensures value { result ≡ reading_of line.now }
     ensures tells { Tells line.now result }
 {
     let l = read_line(line, 0);
     if l.end < line.len() {
-        return Reading::NoCall;
+        return None;
     }
     l.reading
 }

@@ -8,7 +8,7 @@ use lib.Dec.{ltb}
 use lib.ListN.{get_or, length, set}
 use lib.Seq.{set-get_or, set-set}
 use borrow.Author.Tests.{eq-eqb, le-ltb}
-use Rattle.model.specs.Answers.{answer_line}
+use Rattle.model.specs.Answers.{Answer, answer_line}
 use Rattle.model.specs.Bounds.{Bounded, CollectBounds, EnteredBounds, OrderBounds, PhaseBounds, TicketBounds}
 use Rattle.model.specs.Calls.{accept, cancel_form, enter_rest, enter_tests, enter_with, entered_round, leave_rest, leave_tests, leave_with, left_round, refuse, ticket_form}
 use Rattle.model.specs.EnterLeave.{EnterForgotten, EnterLeave, LeaveEnter, LeftAbsent}
@@ -17,8 +17,6 @@ use Rattle.model.specs.Run.{Request, request_of, step_of}
 use Rattle.model.specs.Submissions.{Submission, events_of, left_by, model_engine, single, state_after, told_by}
 use Rattle.model.specs.State.{closed_market, free_ticket, fresh_exchange, market_at, order_in, phase, round_in, set_market, set_markets, set_tickets, ticket, totals_of, with_held, with_phase, with_sides, with_ticket, with_tickets}
 use Rattle.model.specs.WholeRun.{part_in, placed_in}
-use Rattle.model.specs.declared.answer.Answer.{Answer}
-use Rattle.model.specs.declared.answer.Answer.TheVariants.{Accepted}
 use Rattle.model.specs.declared.answer.Outcome.{Outcome}
 use Rattle.model.specs.declared.answer.Refusal.TheVariants.{BufferTooShort}
 use Rattle.model.specs.declared.call.Call.{Call}
@@ -229,11 +227,11 @@ leave_enter x l k member a b e =
     leaves_enters x (reachable_bounded x l) (reachable_inv l).0 (reachable_inv l).1 k member (accepted_passed x (Call.Leave k member) a b e)
 
 -- a request that was accepted is its call
-request_accepted : (x : Exchange) (q : Request) (a b : ℕ) → (request_of x q).answer ≡ Accepted a b → (step_of x q.call).answer ≡ Accepted a b
+request_accepted : (x : Exchange) (q : Request) (a b : ℕ) → (request_of x q).answer ≡ Ok (a, b) → (step_of x q.call).answer ≡ Ok (a, b)
 unfolding request_of
 request_accepted x q a b = go (ltb q.room (length (answer_line q.line (step_of x q.call).answer)))
   where
-    go : (t : Bool) → (cond t (refuse x BufferTooShort) (step_of x q.call)).answer ≡ Accepted a b → (step_of x q.call).answer ≡ Accepted a b
+    go : (t : Bool) → (cond t (refuse x BufferTooShort) (step_of x q.call)).answer ≡ Ok (a, b) → (step_of x q.call).answer ≡ Ok (a, b)
     go true e = absurd (let z : ◌≡◌ {A = ℕ} 0 1 = cc in omega arith)
     go false e = e
 
@@ -268,9 +266,9 @@ unfolding with_event with_accepted
 left_absent ss leave k member el a b la =
     let x : Exchange = state_after model_engine fresh_exchange ss in
     let y : History = history_of (events_of model_engine fresh_exchange ss) in
-    let e : (step_of x (Call.Leave k member)).answer ≡ Accepted a b = subst (λ (v : Call). (step_of x v).answer ≡ Accepted a b) el (request_accepted x leave a b la) in
+    let e : (step_of x (Call.Leave k member)).answer ≡ Ok (a, b) = subst (λ (v : Call). (step_of x v).answer ≡ Ok (a, b)) el (request_accepted x leave a b la) in
     ap (λ (v : History). part_in (v.rounds (order x k).market) k)
-    (told_more fresh_exchange no_history ss (single leave ∷ []) ∙ one_told x y leave (Call.Leave k member) (Accepted a b) el la)
+    (told_more fresh_exchange no_history ss (single leave ∷ []) ∙ one_told x y leave (Call.Leave k member) (Ok (a, b)) el la)
     ∙ leaves_absent x y (run_keeps fresh_exchange no_history fresh_inv ss) k member (accepted_passed x (Call.Leave k member) a b e)
 
 pub enter_forgotten : EnterForgotten
@@ -278,7 +276,7 @@ unfolding with_event with_accepted
 enter_forgotten ss enter leave k member ee el a b c d ea la =
     let x : Exchange = state_after model_engine fresh_exchange ss in
     let y : History = history_of (events_of model_engine fresh_exchange ss) in
-    let e : (step_of x (Call.Enter k)).answer ≡ Accepted a b = subst (λ (v : Call). (step_of x v).answer ≡ Accepted a b) ee (request_accepted x enter a b ea) in
+    let e : (step_of x (Call.Enter k)).answer ≡ Ok (a, b) = subst (λ (v : Call). (step_of x v).answer ≡ Ok (a, b)) ee (request_accepted x enter a b ea) in
     told_more fresh_exchange no_history ss (single enter ∷ single leave ∷ [])
-    ∙ two_told x y enter leave (Call.Enter k) (Call.Leave k member) (Accepted a b) (Accepted c d) ee el ea la
+    ∙ two_told x y enter leave (Call.Enter k) (Call.Leave k member) (Ok (a, b)) (Ok (c, d)) ee el ea la
     ∙ enters_forgotten x y (run_keeps fresh_exchange no_history fresh_inv ss) k (accepted_passed x (Call.Enter k) a b e)

@@ -14,7 +14,6 @@ use Rattle.model.specs.Bounds.{PhaseBounds, RoundBounds}
 use Rattle.model.specs.Calls.{match_tests, trade_of}
 use Rattle.model.specs.Matching.{MatchAlone, MatchTells, MatchesTell, base_of, upper_of}
 use Rattle.model.specs.State.{is_collect, phase, round_in}
-use Rattle.model.specs.declared.answer.Answer.TheVariants.{Accepted}
 use Rattle.model.specs.declared.answer.Outcome.{Outcome}
 use Rattle.model.specs.declared.call.Call.TheVariants as Call
 use Rattle.model.specs.declared.state.Phase.TheVariants.{Collect}
@@ -103,6 +102,6 @@ matches_tell x l market at m c e =
     let r : Round = round_in (phase x market) in
     let ep : phase x market ≡ Collect r = collect_is (phase x market) (not-false (is_collect (phase x market)) p.1.0) in
     let b : RoundBounds r = (subst PhaseBounds ep ((reachable_bounded x l).phase_bounds market (omega (arith, range)) (omega (arith, range)))).0 in
-    let told : Accepted m c ≡ Accepted (trade_of r).base.0 (trade_of r).quote.0 =
+    let told : Ok (m, c) ≡ Ok ((trade_of r).base.0, (trade_of r).quote.0) =
     sym e ∙ ap (λ (out : Outcome). out.answer) (step_passed x (Call.Match market at) p) in
     subst₂ (MatchTells r) (sym (ap first_of told)) (sym (ap second_of told)) (round_tells r b)

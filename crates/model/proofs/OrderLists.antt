@@ -10,7 +10,7 @@ use borrow.Author.Tests.{eq-eqb, eqb-true, le-ltb, ltb-false}
 use Rattle.units.specs.Ranges.{most_orders}
 use Rattle.model.specs.OrderLists.{CutAlike, EmptyList, ListOfOne, Listed, ListsCut, NothingChanges, OrdersReachable, list_done, list_refused, order_call, orders_of, place_of}
 use Rattle.model.specs.Run.{Reachable, after_call, after_calls, answers_to_calls, step_of}
-use Rattle.model.specs.declared.answer.Answer.{Answer}
+use Rattle.model.specs.Answers.{Answer}
 use Rattle.model.specs.declared.answer.Refusal.TheVariants.{BadOrderList}
 use Rattle.model.specs.declared.call.Call.{Call}
 use Rattle.model.specs.declared.orders.AnswerPlace.{AnswerPlace}

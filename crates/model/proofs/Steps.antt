@@ -4,7 +4,6 @@ use mathlib.Core.Path.{◌≡◌}
 use native.Mathlib.Omega.{arith}
 use Rattle.model.specs.Calls.{done_of, refuse, tests_of}
 use Rattle.model.specs.Run.{step_of}
-use Rattle.model.specs.declared.answer.Answer.TheVariants.{Accepted}
 use Rattle.model.specs.declared.answer.Outcome.{Outcome}
 use Rattle.model.specs.declared.answer.Refusal.{Refusal}
 use Rattle.model.specs.declared.call.Call.{Call}
@@ -22,8 +21,8 @@ unfolding step_of
 step_passed x c p = decide_passed (refuse x) (done_of x c) (tests_of x c) p
 
 -- a call that was accepted passed its tests
-pub accepted_passed : (x : Exchange) (c : Call) (a b : ℕ) → (step_of x c).answer ≡ Accepted a b → Passed (tests_of x c)
+pub accepted_passed : (x : Exchange) (c : Call) (a b : ℕ) → (step_of x c).answer ≡ Ok (a, b) → Passed (tests_of x c)
 unfolding step_of
 accepted_passed x c a b e =
-    passed_by (λ (out : Outcome). out.answer ≡ Accepted a b) (refuse x) (done_of x c)
+    passed_by (λ (out : Outcome). out.answer ≡ Ok (a, b)) (refuse x) (done_of x c)
     (λ r q. absurd (let z : ◌≡◌ {A = ℕ} 0 1 = cc in omega arith)) (tests_of x c) e

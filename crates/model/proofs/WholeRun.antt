@@ -16,7 +16,6 @@ use Rattle.model.specs.Run.{Event, Request, after_calls, answers_to_calls, reque
 use Rattle.model.specs.Submissions.{Submission, events_of, left_by, list_told, model_engine, order_list, orders_told, single, state_after, told_by}
 use Rattle.model.specs.State.{closed_market, free_ticket, fresh_exchange, is_entered, is_free, is_paying, order_in, phase, round_in, ticket}
 use Rattle.model.specs.WholeRun.{ListsKeep, PaysOut, RoundPays, SettledTicket, Singly, Whole, WholeRun, entered_in, got_by, next_order, nil, no_order_left, order_with, paid_by, part_in, placed_in, put_by, resting_in, resting_total, rounds_total, unclaimed}
-use Rattle.model.specs.declared.answer.Answer.TheVariants.{Accepted, Refused}
 use Rattle.model.specs.declared.answer.Outcome.{Outcome}
 use Rattle.model.specs.declared.answer.Refusal.{Refusal}
 use Rattle.model.specs.declared.answer.Refusal.TheVariants.{BufferTooShort}
@@ -204,14 +203,14 @@ module _ (h : Exchange) (y : History) (i : Inv h y) (k : ℕ) (terms : OrderTerm
   paying : phase h market ≡ Paying (round_in (phase h market))
   paying = paying_round (phase h market) b (subst (MarketOk (phase h market)) st.round (i.markets market st.market_low st.market_high)) st.stage
 
-  claim_pays : (line room : ℕ) → length (answer_line line (Accepted (paid_by b terms o) (got_by b terms o))) ≤ room
+  claim_pays : (line room : ℕ) → length (answer_line line (Ok ((paid_by b terms o), (got_by b terms o)))) ≤ room
       → PaysOut h k order (paid_by b terms o) (got_by b terms o) (request_of h (record { line = line; room = room; call = Call.Claim k }))
   claim_pays line room =
       let r : Round = round_in (phase h market) in
       let sh = shares_are h y i k st.ticket_range order r b entered paying st.round in
       subst₂
       (λ (s g : ℕ).
-      length (answer_line line (Accepted s g)) ≤ room
+      length (answer_line line (Ok (s, g))) ≤ room
       → PaysOut h k order s g (request_of h (record { line = line; room = room; call = Call.Claim k })))
       sh.0 sh.1
       (λ l.
@@ -220,7 +219,7 @@ module _ (h : Exchange) (y : History) (i : Inv h y) (k : ℕ) (terms : OrderTerm
 
 -- a refusal leaves the state: the decision's own refusals do, and an acceptance is none
 Leaves : Exchange → Outcome → Type 0
-Leaves h out = (why : Refusal) → out.answer ≡ Refused why → out.exchange ≡ h
+Leaves h out = (why : Refusal) → out.answer ≡ Err why → out.exchange ≡ h
 
 step_leaves : (h : Exchange) (c : Call) → Leaves h (step_of h c)
 unfolding Leaves
@@ -228,11 +227,11 @@ step_leaves h c =
     step_apart h c (Leaves h) (λ r why e. refl)
     (λ p why e. absurd (omega (arith, refusal_code_lem why, sym (ap code_of e) ∙ (codes_rising h c).done_accepts)))
 
-refused_leaves : (h : Exchange) (q : Request) (why : Refusal) → (request_of h q).answer ≡ Refused why → (request_of h q).exchange ≡ h
+refused_leaves : (h : Exchange) (q : Request) (why : Refusal) → (request_of h q).answer ≡ Err why → (request_of h q).exchange ≡ h
 unfolding request_of Leaves
 refused_leaves h q why = go (ltb q.room (length (answer_line q.line (step_of h q.call).answer)))
   where
-    go : (t : Bool) → (cond t (refuse h BufferTooShort) (step_of h q.call)).answer ≡ Refused why → (cond t (refuse h BufferTooShort) (step_of h q.call)).exchange ≡ h
+    go : (t : Bool) → (cond t (refuse h BufferTooShort) (step_of h q.call)).answer ≡ Err why → (cond t (refuse h BufferTooShort) (step_of h q.call)).exchange ≡ h
     go true e = refl
     go false e = step_leaves h q.call why e
 
@@ -262,9 +261,9 @@ singly x (f ∷ fs) = next_order (λ line room l. (rooms_first x (record { line 
 
 ListKeeps : Exchange → List OrderFields → List AnswerPlace → Listed → Type 0
 ListKeeps x fs ps l =
-    ((why : Refusal) → l.answer ≡ Refused why → (l.exchange ≡ x) × (l.answers ≡ ps))
-    × ((a b : ℕ) → l.answer ≡ Accepted a b → (length l.answers ≡ length fs) × (length l.answers ≡ length ps))
-    × ((a b : ℕ) → l.answer ≡ Accepted a b → Singly request_of x fs l.answers l.exchange)
+    ((why : Refusal) → l.answer ≡ Err why → (l.exchange ≡ x) × (l.answers ≡ ps))
+    × ((a b : ℕ) → l.answer ≡ Ok (a, b) → (length l.answers ≡ length fs) × (length l.answers ≡ length ps))
+    × ((a b : ℕ) → l.answer ≡ Ok (a, b) → Singly request_of x fs l.answers l.exchange)
 
 list_keeps : (x : Exchange) (fs : List OrderFields) (ps : List AnswerPlace) → ListKeeps x fs ps (orders_of x fs ps)
 unfolding ListKeeps

@@ -16,7 +16,6 @@ use Rattle.model.specs.History.{History, auctioning, log_of, running}
 use Rattle.model.specs.Run.{Reachable, after_call, after_calls, step_of}
 use Rattle.model.specs.Sides.{wanted}
 use Rattle.model.specs.State.{closed_market, credit, is_auction, is_closed, last_block, phase, resting_or, round_in, ticket, to_residue, totals_of, with_phase, with_ticket}
-use Rattle.model.specs.declared.answer.Answer.TheVariants.{Accepted}
 use Rattle.model.specs.declared.answer.Outcome.{Outcome}
 use Rattle.model.specs.declared.state.Exchange.{Exchange}
 use Rattle.model.specs.declared.state.Market.{Market}
@@ -312,7 +311,7 @@ pub record Winding (x : Exchange) (market s : ℕ) : Type 0 where
   pub tickets : round.tickets ≡ s
   pub phase_is : phase x market ≡ settled_phase round
 
-pub winding_settled : (x : Exchange) → Reachable x → (market at a b : ℕ) → (step_of x (Call.Settle market at)).answer ≡ Accepted a b
+pub winding_settled : (x : Exchange) → Reachable x → (market at a b : ℕ) → (step_of x (Call.Settle market at)).answer ≡ Ok (a, b)
     → Winding (step_of x (Call.Settle market at)).exchange market (round_in (phase x market)).tickets
 winding_settled x l mk at a b e =
     let v = reachable_inv l in

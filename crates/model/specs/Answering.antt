@@ -5,11 +5,10 @@
 use Rattle.std.specs.Prelude.{ℕ, ◌<◌, ◌≡◌, List, [], ◌∷◌}
 use Rattle.model.specs.declared.state.Exchange.{Exchange}
 use Rattle.model.specs.declared.call.Call.{Call}
-use Rattle.model.specs.declared.answer.Answer.{Answer}
 use Rattle.model.specs.declared.orders.OrderFields.{OrderFields}
 use Rattle.model.specs.declared.orders.AnswerPlace.{AnswerPlace}
 use Rattle.model.specs.View.{View, view}
-use Rattle.model.specs.Answers.{code_of, first_of, second_of}
+use Rattle.model.specs.Answers.{Answer, code_of, first_of, second_of}
 use Rattle.model.specs.Refusals.{Coded, ListCoded}
 use Rattle.model.specs.Moves.{Moved}
 use Rattle.model.specs.Run.{step_of, Reachable}

@@ -1,9 +1,11 @@
 -- "An answer is a code and two numbers. Code 0 is acceptance"; a refusal answers its code and two zeros.
-use Rattle.std.specs.Prelude.{ℕ, List, [], ◌∷◌, ◌++◌}
+use Rattle.std.specs.Prelude.{ℕ, List, [], ◌∷◌, ◌++◌, Ok, Err, Result}
 use Rattle.units.specs.Decimal.{digits}
 use Rattle.model.specs.declared.answer.Refusal.{Refusal}
-use Rattle.model.specs.declared.answer.Answer.{Answer}
-use Rattle.model.specs.declared.answer.Answer.TheVariants.{Accepted, Refused}
+
+-- acceptance with its two numbers, or a refusal
+abbrev pub Answer : Type 0
+Answer = Result (ℕ × ℕ) Refusal
 
 -- the numbers of "Why a call is turned down", and document 02's 22
 abbrev pub refusal_code : Refusal → ℕ
@@ -32,16 +34,16 @@ refusal_code Refusal.BadOrderList = 22
 
 -- the code and the two numbers
 abbrev pub code_of : Answer → ℕ
-code_of (Accepted a b) = 0
-code_of (Refused r) = refusal_code r
+code_of (Ok (a, b)) = 0
+code_of (Err r) = refusal_code r
 
 abbrev pub first_of : Answer → ℕ
-first_of (Accepted a b) = a
-first_of (Refused r) = 0
+first_of (Ok (a, b)) = a
+first_of (Err r) = 0
 
 abbrev pub second_of : Answer → ℕ
-second_of (Accepted a b) = b
-second_of (Refused r) = 0
+second_of (Ok (a, b)) = b
+second_of (Err r) = 0
 
 -- "its number from 1, code, two numbers, parted by commas", ended by byte 10
 unfoldable pub answer_line : ℕ → Answer → List ℕ

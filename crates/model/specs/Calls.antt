@@ -2,7 +2,7 @@
 -- which its numbers alone decide, and the rest, over the parts of the state that it looks at; and then what an accepted call answers and leaves. A
 -- test compares sums, so that it means what it says for every number; only k and the price under bid's 17 to 19 are differences, exact since 12 and
 -- 16 go before them. The differences that an accepted call works out are exact in every state that calls can leave (specs/Bounds.antt).
-use Rattle.std.specs.Prelude.{ℕ, ◌+◌, ◌-◌, Bool, not, cond, ◌||◌, ◌&&◌, List, [], ◌∷◌, ◌++◌, ltb, eqb}
+use Rattle.std.specs.Prelude.{ℕ, ◌+◌, ◌-◌, Bool, not, cond, ◌||◌, ◌&&◌, List, [], ◌∷◌, ◌++◌, ltb, eqb, Ok, Err}
 use Rattle.units.specs.Counts.{amount, price, largest}
 use Rattle.units.specs.Ranges.{last_member, last_token, last_market, last_ticket, last_side, highest_limit, highest_reference, highest_slack, longest_auction, blocks_to_match}
 use Rattle.units.specs.Decide.{Test, when, decide}
@@ -22,7 +22,6 @@ use Rattle.model.specs.declared.state.Exchange.{Exchange}
 use Rattle.model.specs.declared.call.Call.{Call}
 use Rattle.model.specs.declared.answer.Refusal.{Refusal}
 use Rattle.model.specs.declared.answer.Refusal.TheVariants.{NoSuchMember, NoSuchToken, NoSuchMarket, NoSuchTicket, NoSuchSide, BadAmountOrLimit, TicketInUse, NoSuchOrder, WrongTicketState, BadTerms, WrongPhase, StaleBlock, TooEarly, SupplyExceeded, LimitOutOfBounds, AuctionOver, NotAvailable, BoundMissed, InsufficientBalance}
-use Rattle.model.specs.declared.answer.Answer.TheVariants.{Accepted, Refused}
 use Rattle.model.specs.declared.answer.Outcome.{Outcome}
 use Rattle.model.specs.Sides.{side_of, by_side, offered, wanted, gives, takes}
 use Rattle.model.specs.State.{balance, supply, last_block, ticket, order_in, is_free, is_entered, resting_or}
@@ -32,11 +31,11 @@ use Rattle.model.specs.State.{with_start, with_tickets, with_sides, with_held, w
 -- ---- outcomes and tests
 
 abbrev pub accept : ℕ → ℕ → Exchange → Outcome
-accept a b x = record { answer = Accepted a b; exchange = x }
+accept a b x = record { answer = Ok (a, b); exchange = x }
 
 -- a refusal leaves the state
 abbrev pub refuse : Exchange → Refusal → Outcome
-refuse x r = record { answer = Refused r; exchange = x }
+refuse x r = record { answer = Err r; exchange = x }
 
 abbrev pub above : ℕ → ℕ → Bool
 above a b = ltb b a

@@ -1,13 +1,12 @@
 -- "For a market in auction, where start + L is below 4,294,967,295, one settle at a block above start + L (and not below the last block
 -- accepted) and one claim for each ticket marked bring the market back to closed: never more than 65 accepted calls."
-use Rattle.std.specs.Prelude.{ℕ, ◌+◌, ◌≤◌, ◌<◌, ◌≡◌, cond, List, [], ◌∷◌, map, eqb, length}
+use Rattle.std.specs.Prelude.{ℕ, ◌+◌, ◌≤◌, ◌<◌, ◌≡◌, cond, List, [], ◌∷◌, map, eqb, length, Ok}
 use Rattle.units.specs.Counts.{largest}
 use Rattle.ticket_set.specs.TicketSet.{bit, members_of}
 use Rattle.model.specs.declared.state.Round.{Round}
 use Rattle.model.specs.declared.state.Phase.TheVariants.{Closed, Auction}
 use Rattle.model.specs.declared.state.Exchange.{Exchange}
 use Rattle.model.specs.declared.call.Call.{Call}
-use Rattle.model.specs.declared.answer.Answer.TheVariants.{Accepted}
 use Rattle.model.specs.State.{phase, round_in, last_block}
 use Rattle.model.specs.Answers.{code_of}
 use Rattle.model.specs.Run.{step_of, after_calls, Reachable}
@@ -51,7 +50,7 @@ CanClose =
 -- a settle may also be accepted earlier, once nothing is left; whenever it is, the same holds
 abbrev pub SettleCloses : Type 0
 SettleCloses =
-    (x : Exchange) → Reachable x → (market at a b : ℕ) → (step_of x (Call.Settle market at)).answer ≡ Accepted a b
+    (x : Exchange) → Reachable x → (market at a b : ℕ) → (step_of x (Call.Settle market at)).answer ≡ Ok (a, b)
     → (ks : List ℕ) → Names (round_in (phase x market)).tickets ks → BackToClosed x market at ks
 
 -- the settle, and a claim of each ticket that the market's round marks, lowest first

@@ -1,9 +1,8 @@
 -- The edges of document 01, marked ◆ there, as one list: calls from the fresh state, and then the last answer (code, first, second), the
 -- residue (the paper's tray) of tokens 0 and 1, and whether market 1 is closed. Each quotes the paper.
-use Rattle.std.specs.Prelude.{ℕ, Bool, true, false, List, [], ◌∷◌, ◌++◌}
+use Rattle.std.specs.Prelude.{ℕ, Bool, true, false, List, [], ◌∷◌, ◌++◌, Ok}
 use Rattle.model.specs.declared.call.Call.{Call}
 use Rattle.model.specs.declared.call.Call.TheVariants.{Deposit, Order, Open, Enter, Match, Bid, Settle, Claim}
-use Rattle.model.specs.declared.answer.Answer.TheVariants.{Accepted}
 use Rattle.model.specs.declared.answer.Outcome.{Outcome}
 use Rattle.model.specs.State.{residue, phase, is_closed, fresh_exchange}
 use Rattle.model.specs.Answers.{code_of, first_of, second_of}
@@ -36,7 +35,7 @@ outcome_as cs out =
 
 -- the same calls with the numbers that the definitions give
 unfoldable pub worked_edge : Edge → Edge
-worked_edge e = outcome_as e.calls (last_outcome (record { answer = Accepted 0 0; exchange = fresh_exchange }) e.calls)
+worked_edge e = outcome_as e.calls (last_outcome (record { answer = Ok (0, 0); exchange = fresh_exchange }) e.calls)
 
 -- market 1 with one buy of q quote and one sell of s base, matched at r 2,500,000 and w 0
 unfoldable pub match_of_two : ℕ → ℕ → List Call

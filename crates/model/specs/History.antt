@@ -1,12 +1,11 @@
 -- Document 01's "A whole run": what is "worked from the list's accepted calls, their fields and answers, and from nothing the engine keeps".
 -- No state of an engine stands in this file.
-use Rattle.std.specs.Prelude.{ℕ, zero, suc, ◌+◌, ◌-◌, Bool, true, false, cond, List, [], ◌∷◌, eqb}
+use Rattle.std.specs.Prelude.{ℕ, zero, suc, ◌+◌, ◌-◌, Bool, true, false, cond, List, [], ◌∷◌, eqb, Ok, Err}
 use Rattle.units.specs.Sums.{sum_to}
 use Rattle.pricing.specs.declared.Side.{Side}
 use Rattle.pricing.specs.declared.Side.TheVariants.{Buy, Sell}
 use Rattle.model.specs.declared.call.Call.{Call}
-use Rattle.model.specs.declared.answer.Answer.{Answer}
-use Rattle.model.specs.declared.answer.Answer.TheVariants.{Accepted, Refused}
+use Rattle.model.specs.Answers.{Answer}
 use Rattle.model.specs.Sides.{side_of, by_side, other, offered, wanted, gives, takes}
 use Rattle.model.specs.Run.{Event}
 
@@ -373,8 +372,8 @@ with_accepted y (Call.Leave k member) a b = with_leave y k (y.orders k)
 
 -- a refused call says nothing
 unfoldable pub with_event : History → Call → Answer → History
-with_event y c (Accepted a b) = with_accepted y c a b
-with_event y c (Refused r) = y
+with_event y c (Ok (a, b)) = with_accepted y c a b
+with_event y c (Err r) = y
 
 unfoldable pub history_from : History → List Event → History
 history_from y [] = y

@@ -1,12 +1,11 @@
 -- What an accepted match answers, in every state that calls can leave: m and c of document 01 with L4, in plain inequalities.
-use Rattle.std.specs.Prelude.{ℕ, ◌*◌, ◌≤◌, ◌<◌, ◌≡◌}
+use Rattle.std.specs.Prelude.{ℕ, ◌*◌, ◌≤◌, ◌<◌, ◌≡◌, Ok}
 use Rattle.units.specs.Counts.{million}
 use Rattle.pricing.specs.Prices.{match_base, match_quote, trade}
 use Rattle.pricing.specs.Laws.{TradeFits, Near}
 use Rattle.model.specs.declared.state.Exchange.{Exchange}
 use Rattle.model.specs.declared.state.Round.{Round}
 use Rattle.model.specs.declared.call.Call.TheVariants as Call
-use Rattle.model.specs.declared.answer.Answer.TheVariants.{Accepted}
 use Rattle.model.specs.State.{phase, round_in}
 use Rattle.model.specs.Calls.{trade_of}
 use Rattle.model.specs.Run.{step_of, Reachable}
@@ -34,7 +33,7 @@ pub record MatchTells (r : Round) (m c : ℕ) : Type 0 where
 -- of every match that is accepted
 abbrev pub MatchesTell : Type 0
 MatchesTell =
-    (x : Exchange) → Reachable x → (market at m c : ℕ) → (step_of x (Call.Match market at)).answer ≡ Accepted m c
+    (x : Exchange) → Reachable x → (market at m c : ℕ) → (step_of x (Call.Match market at)).answer ≡ Ok (m, c)
     → MatchTells (round_in (phase x market)) m c
 
 -- and no other two numbers are so in a round within its bounds: what is told is the definition's trade

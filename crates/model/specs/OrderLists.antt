@@ -1,14 +1,13 @@
 -- Document 02, L5, a morning's orders at once: "A call takes a lent list of orders, up to 64, and a lent list of answers as long." It has no kind and no
 -- line, and so neither 20 nor 21.
-use Rattle.std.specs.Prelude.{ℕ, ◌≤◌, not, ◌||◌, List, [], ◌∷◌, ◌++◌, map, ◌≡◌, eqb, length}
+use Rattle.std.specs.Prelude.{ℕ, ◌≤◌, not, ◌||◌, List, [], ◌∷◌, ◌++◌, map, ◌≡◌, eqb, length, Ok, Err}
 use Rattle.units.specs.Ranges.{most_orders}
 use Rattle.units.specs.Decide.{Test, when, decide}
 use Rattle.model.specs.declared.state.Exchange.{Exchange}
 use Rattle.model.specs.declared.call.Call.{Call}
 use Rattle.model.specs.declared.answer.Refusal.{Refusal}
 use Rattle.model.specs.declared.answer.Refusal.TheVariants.{BadOrderList}
-use Rattle.model.specs.declared.answer.Answer.{Answer}
-use Rattle.model.specs.declared.answer.Answer.TheVariants.{Accepted, Refused}
+use Rattle.model.specs.Answers.{Answer}
 use Rattle.model.specs.declared.answer.Outcome.{Outcome}
 use Rattle.model.specs.declared.orders.OrderFields.{OrderFields}
 use Rattle.model.specs.declared.orders.AnswerPlace.{AnswerPlace}
@@ -36,14 +35,14 @@ list_tests orders places = when (not (eqb orders places) || above orders most_or
 
 -- "both lists and the house then stay", with "two zeros", as every refusal. The list of orders is lent to be read, so that no call can change it
 abbrev pub list_refused : Exchange → List AnswerPlace → Refusal → Listed
-list_refused x places r = record { answer = Refused r; answers = places; exchange = x }
+list_refused x places r = record { answer = Err r; answers = places; exchange = x }
 
 -- "The house and answers afterwards are those of the orders made singly from first to last, refused ones in their places. A refused order takes its place in
 -- the answers and doesn't stop those after it." The call's own answer is "0 .. with two zeros"
 abbrev pub list_done : Exchange → List OrderFields → Listed
 list_done x orders =
     let calls : List Call = map order_call orders in
-    record { answer = Accepted 0 0; answers = map place_of (answers_to_calls x calls); exchange = after_calls x calls }
+    record { answer = Ok (0, 0); answers = map place_of (answers_to_calls x calls); exchange = after_calls x calls }
 
 unfoldable pub orders_of : Exchange → List OrderFields → List AnswerPlace → Listed
 orders_of x orders places = decide (list_tests (length orders) (length places)) (list_refused x places) (list_done x orders)
@@ -68,15 +67,15 @@ EmptyList = (x : Exchange) (places : List AnswerPlace) → NothingChanges x plac
 abbrev pub ListOfOne : Type 0
 ListOfOne =
     (x : Exchange) (f : OrderFields) (p : AnswerPlace) → let o : Outcome = step_of x (order_call f) in
-    orders_of x (f ∷ []) (p ∷ []) ≡ record { answer = Accepted 0 0; answers = place_of o.answer ∷ []; exchange = o.exchange }
+    orders_of x (f ∷ []) (p ∷ []) ≡ record { answer = Ok (0, 0); answers = place_of o.answer ∷ []; exchange = o.exchange }
 
 -- a list cut in two and made by two calls gives the same state and the same answers
 pub record CutAlike (whole first second : Listed) : Type 0 where
   pub state : whole.exchange ≡ second.exchange
   pub answers : whole.answers ≡ first.answers ++ second.answers
-  pub whole_accepted : whole.answer ≡ Accepted 0 0
-  pub first_accepted : first.answer ≡ Accepted 0 0
-  pub second_accepted : second.answer ≡ Accepted 0 0
+  pub whole_accepted : whole.answer ≡ Ok (0, 0)
+  pub first_accepted : first.answer ≡ Ok (0, 0)
+  pub second_accepted : second.answer ≡ Ok (0, 0)
 
 abbrev pub ListsCut : Type 0
 ListsCut =

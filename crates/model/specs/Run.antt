@@ -3,11 +3,10 @@ use Rattle.std.specs.Prelude.{ℕ, cond, List, [], ◌∷◌, ltb, length}
 use Rattle.units.specs.Decide.{decide}
 use Rattle.model.specs.declared.state.Exchange.{Exchange}
 use Rattle.model.specs.declared.call.Call.{Call}
-use Rattle.model.specs.declared.answer.Answer.{Answer}
 use Rattle.model.specs.declared.answer.Outcome.{Outcome}
 use Rattle.model.specs.declared.answer.Refusal.TheVariants.{BufferTooShort}
 use Rattle.model.specs.State.{fresh_exchange}
-use Rattle.model.specs.Answers.{answer_line}
+use Rattle.model.specs.Answers.{Answer, answer_line}
 use Rattle.model.specs.Calls.{refuse, tests_of, done_of}
 
 -- one call: its tests, and what it does where none applies

@@ -1,15 +1,13 @@
 -- Lists of calls from the fresh state, and what the definitions give for them: the answers, readings of the state, and the numbers of a whole
 -- run. The computed examples are written with these.
-use Rattle.std.specs.Prelude.{ℕ, suc, ◌+◌, Bool, List, [], ◌∷◌}
+use Rattle.std.specs.Prelude.{ℕ, suc, ◌+◌, Bool, List, [], ◌∷◌, Ok, Err}
 use Rattle.units.specs.Sums.{sum_over}
 use Rattle.pricing.specs.declared.Side.{Side}
 use Rattle.pricing.specs.Prices.{share_paid, share_got}
 use Rattle.model.specs.declared.state.Exchange.{Exchange}
 use Rattle.model.specs.declared.call.Call.{Call}
-use Rattle.model.specs.declared.answer.Answer.{Answer}
-use Rattle.model.specs.declared.answer.Answer.TheVariants.{Accepted, Refused}
 use Rattle.model.specs.State.{balance, supply, residue, phase, is_closed, fresh_exchange}
-use Rattle.model.specs.Answers.{refusal_code}
+use Rattle.model.specs.Answers.{Answer, refusal_code}
 use Rattle.model.specs.Run.{step_of}
 use Rattle.model.specs.Submissions.{Submission, single, model_engine, events_of, state_after}
 use Rattle.model.specs.History.{RoundLog, log_of, T, P, G, History, history_of}
@@ -27,8 +25,8 @@ pub data Line : Type 0 where
   closed_is : (market : ℕ) (closed : Bool) → Line
 
 abbrev pub line_of : Call → Answer → Line
-line_of c (Accepted a b) = accepted c a b
-line_of c (Refused r) = refused c (refusal_code r)
+line_of c (Ok (a, b)) = accepted c a b
+line_of c (Err r) = refused c (refusal_code r)
 
 -- the same calls and readings, with the numbers that the definitions give, from a state on
 unfoldable pub worked : Exchange → List Line → List Line

@@ -1,10 +1,9 @@
 -- The list of a whole run: requests, and the calls on the house that have no line. "The list holds any of the ten calls with any fields, accepted or turned
 -- down, 21 included, and any call on the house that is added later". A call that is added without a line is a case of `Submission`, a function of
 -- `WholeEngine`, a clause of `told_by` and of `left_by`, and what the statement says of it a part of `WholeHouse` (WholeRun.antt).
-use Rattle.std.specs.Prelude.{List, [], ◌∷◌, ◌++◌, map, ◌≡◌}
+use Rattle.std.specs.Prelude.{List, [], ◌∷◌, ◌++◌, map, ◌≡◌, Ok, Err}
 use Rattle.model.specs.declared.state.Exchange.{Exchange}
-use Rattle.model.specs.declared.answer.Answer.{Answer}
-use Rattle.model.specs.declared.answer.Answer.TheVariants.{Accepted, Refused}
+use Rattle.model.specs.Answers.{Answer}
 use Rattle.model.specs.declared.orders.OrderFields.{OrderFields}
 use Rattle.model.specs.declared.orders.AnswerPlace.{AnswerPlace}
 use Rattle.model.specs.State.{fresh_exchange}
@@ -37,8 +36,8 @@ orders_told (f ∷ fs) (p ∷ ps) = record { call = order_call f; answer = p.ans
 
 -- an accepted list tells one event for each of its orders, in their order; a refused one tells nothing
 abbrev pub list_told : List OrderFields → Answer → List AnswerPlace → List Event
-list_told fs (Accepted a b) ps = orders_told fs ps
-list_told fs (Refused r) ps = []
+list_told fs (Ok (a, b)) ps = orders_told fs ps
+list_told fs (Err r) ps = []
 
 -- what an element tells, and the state after it
 abbrev pub told_by : WholeEngine → Exchange → Submission → List Event

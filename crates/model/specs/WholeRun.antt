@@ -4,7 +4,7 @@
 -- It does not look at blocks, phases, which code refuses, the prices of matches and bids within the tickets' limits, a maker's bound, the numbers
 -- that kinds 1, 2, 3, 5, 6, 9 and 11 answer, cancel's second and a bid's first, who cancels or leaves, that a list of more than 64 orders is
 -- refused, and the numbers of a list's own answer: the calls' own definitions fix those. So an engine that refuses every call meets it.
-use Rattle.std.specs.Prelude.{ℕ, suc, ◌+◌, ◌-◌, ◌≤◌, ◌<◌, ◌≡◌, cond, List, [], ◌∷◌, eqb, length, get_or}
+use Rattle.std.specs.Prelude.{ℕ, suc, ◌+◌, ◌-◌, ◌≤◌, ◌<◌, ◌≡◌, cond, List, [], ◌∷◌, eqb, length, get_or, Ok, Err}
 use Rattle.units.specs.Counts.{amount, price}
 use Rattle.units.specs.Sums.{sum_to, sum_over, only}
 use Rattle.pricing.specs.declared.Side.{Side}
@@ -17,7 +17,6 @@ use Rattle.model.specs.declared.state.TicketState.{TicketState}
 use Rattle.model.specs.declared.state.TicketState.TheVariants.{Free, Resting, Entered}
 use Rattle.model.specs.declared.state.Exchange.{Exchange}
 use Rattle.model.specs.declared.call.Call.TheVariants as Call
-use Rattle.model.specs.declared.answer.Answer.TheVariants.{Accepted, Refused}
 use Rattle.model.specs.declared.answer.Refusal.{Refusal}
 use Rattle.model.specs.declared.answer.Outcome.{Outcome}
 use Rattle.model.specs.declared.orders.OrderFields.{OrderFields}
@@ -143,7 +142,7 @@ order_with terms market o =
 
 -- "paying it out leaves o - s with the ticket and adds got to its member's balance": an outcome that answers s and got and does just that
 pub record PaysOut (x : Exchange) (k : ℕ) (o : Order) (s got : ℕ) (out : Outcome) : Type 0 where
-  pub accepted : out.answer ≡ Accepted s got
+  pub accepted : out.answer ≡ Ok (s, got)
   pub within : s ≤ o.offer.0
   -- the ticket rests with the same order and o - s, or is free at 0; every other ticket is as it was
   pub rest : ticket out.exchange k ≡ resting_or o (o.offer.0 - s)
@@ -184,12 +183,12 @@ pub record PastAgrees (residue : ℕ → ℕ) (ended : List EndedRound) (payouts
 -- of the engine, in this state and with this history
 pub record EngineKeeps (f : Engine) (x : Exchange) (y : History) : Type 0 where
   -- a request that is refused leaves the state
-  pub refused_stays : (q : Request) (why : Refusal) → (f x q).answer ≡ Refused why → (f x q).exchange ≡ x
+  pub refused_stays : (q : Request) (why : Refusal) → (f x q).answer ≡ Err why → (f x q).exchange ≡ x
   -- every settled ticket's claim, with room for its line, is accepted and pays its full share, worked from history
   pub settled_pays :
       (k : ℕ) (terms : OrderTerms) (market o : ℕ) (b : RoundLog) → SettledTicket y k terms market o b
       → (y.orders k ≡ placed terms market o)
-      × ((line room : ℕ) → length (answer_line line (Accepted (paid_by b terms o) (got_by b terms o))) ≤ room
+      × ((line room : ℕ) → length (answer_line line (Ok ((paid_by b terms o), (got_by b terms o)))) ≤ room
       → PaysOut x k (order_with terms market o) (paid_by b terms o) (got_by b terms o)
       (f x (record { line = line; room = room; call = Call.Claim k })))
 
@@ -216,15 +215,15 @@ pub data Singly (f : Engine) : Exchange → List OrderFields → List AnswerPlac
 pub record ListsKeep (e : WholeEngine) (x : Exchange) : Type 0 where
   -- "both lists and the house then stay"
   pub refused_leaves :
-      (orders : List OrderFields) (places : List AnswerPlace) (why : Refusal) → (e.order_list x orders places).answer ≡ Refused why
+      (orders : List OrderFields) (places : List AnswerPlace) (why : Refusal) → (e.order_list x orders places).answer ≡ Err why
       → ((e.order_list x orders places).exchange ≡ x) × ((e.order_list x orders places).answers ≡ places)
   -- an accepted list has as many answers as orders, so that each order is told, and as places, so that lists of different lengths are refused
   pub all_answered :
-      (orders : List OrderFields) (places : List AnswerPlace) (a b : ℕ) → (e.order_list x orders places).answer ≡ Accepted a b
+      (orders : List OrderFields) (places : List AnswerPlace) (a b : ℕ) → (e.order_list x orders places).answer ≡ Ok (a, b)
       → (length (e.order_list x orders places).answers ≡ length orders) × (length (e.order_list x orders places).answers ≡ length places)
   -- "The house and answers afterwards are those of the orders made singly from first to last"
   pub made_singly :
-      (orders : List OrderFields) (places : List AnswerPlace) (a b : ℕ) → (e.order_list x orders places).answer ≡ Accepted a b
+      (orders : List OrderFields) (places : List AnswerPlace) (a b : ℕ) → (e.order_list x orders places).answer ≡ Ok (a, b)
       → Singly e.request x orders (e.order_list x orders places).answers (e.order_list x orders places).exchange
 
 -- the same of an engine of the whole house, and what holds of its other calls

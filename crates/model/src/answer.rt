@@ -4,39 +4,35 @@ ghost use Rattle.model.specs.Answers.{refusal_code, code_of, first_of, second_of
 
 use crate::state::Exchange;
 
-// Why a call is turned down: one case for each code from 1 to 22, in their order.
-#[derive(Clone, Copy)]
+// Why a call is turned down, each with its number in the papers: document 01's codes 1 to 21, and document 02's 22.
+#[derive(Clone, Copy, PartialEq, Eq)]
 pub enum Refusal {
-    NoSuchMember,
-    NoSuchToken,
-    NoSuchMarket,
-    NoSuchTicket,
-    NoSuchSide,
-    BadAmountOrLimit,
-    TicketInUse,
-    NoSuchOrder,
-    WrongTicketState,
-    BadTerms,
-    WrongPhase,
-    StaleBlock,
-    TooEarly,
-    SupplyExceeded,
-    LimitOutOfBounds,
-    AuctionOver,
-    NotAvailable,
-    BoundMissed,
-    InsufficientBalance,
-    MalformedLine,
-    BufferTooShort,
-    BadOrderList,
+    NoSuchMember = 1,
+    NoSuchToken = 2,
+    NoSuchMarket = 3,
+    NoSuchTicket = 4,
+    NoSuchSide = 5,
+    BadAmountOrLimit = 6,
+    TicketInUse = 7,
+    NoSuchOrder = 8,
+    WrongTicketState = 9,
+    BadTerms = 10,
+    WrongPhase = 11,
+    StaleBlock = 12,
+    TooEarly = 13,
+    SupplyExceeded = 14,
+    LimitOutOfBounds = 15,
+    AuctionOver = 16,
+    NotAvailable = 17,
+    BoundMissed = 18,
+    InsufficientBalance = 19,
+    MalformedLine = 20,
+    BufferTooShort = 21,
+    BadOrderList = 22,
 }
 
 // Accepted with its two numbers, or refused: "Code 0 is acceptance".
-#[derive(Clone, Copy)]
-pub enum Answer {
-    Accepted(u32, u32),
-    Refused(Refusal),
-}
+pub type Answer = Result<(u32, u32), Refusal>;
 
 // An answer, and the state after it.
 #[derive(Clone, Copy)]
@@ -49,30 +45,7 @@ pub struct Outcome {
 pub fn refusal_code(why: Refusal) -> u32
     ensures { result ≡ refusal_code why }
 {
-    match why {
-        Refusal::NoSuchMember => 1,
-        Refusal::NoSuchToken => 2,
-        Refusal::NoSuchMarket => 3,
-        Refusal::NoSuchTicket => 4,
-        Refusal::NoSuchSide => 5,
-        Refusal::BadAmountOrLimit => 6,
-        Refusal::TicketInUse => 7,
-        Refusal::NoSuchOrder => 8,
-        Refusal::WrongTicketState => 9,
-        Refusal::BadTerms => 10,
-        Refusal::WrongPhase => 11,
-        Refusal::StaleBlock => 12,
-        Refusal::TooEarly => 13,
-        Refusal::SupplyExceeded => 14,
-        Refusal::LimitOutOfBounds => 15,
-        Refusal::AuctionOver => 16,
-        Refusal::NotAvailable => 17,
-        Refusal::BoundMissed => 18,
-        Refusal::InsufficientBalance => 19,
-        Refusal::MalformedLine => 20,
-        Refusal::BufferTooShort => 21,
-        Refusal::BadOrderList => 22,
-    }
+    why as u32
 }
 
 // An answer's code.
@@ -80,8 +53,8 @@ pub fn code(answer: Answer) -> u32
     ensures { result ≡ code_of answer }
 {
     match answer {
-        Answer::Accepted(_, _) => 0,
-        Answer::Refused(why) => refusal_code(why),
+        Ok(_) => 0,
+        Err(why) => refusal_code(why),
     }
 }
 
@@ -90,8 +63,8 @@ pub fn first(answer: Answer) -> u32
     ensures { result ≡ first_of answer }
 {
     match answer {
-        Answer::Accepted(a, _) => a,
-        Answer::Refused(_) => 0,
+        Ok((first, _)) => first,
+        Err(_) => 0,
     }
 }
 
@@ -100,7 +73,7 @@ pub fn second(answer: Answer) -> u32
     ensures { result ≡ second_of answer }
 {
     match answer {
-        Answer::Accepted(_, b) => b,
-        Answer::Refused(_) => 0,
+        Ok((_, second)) => second,
+        Err(_) => 0,
     }
 }

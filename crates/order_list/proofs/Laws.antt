@@ -8,15 +8,14 @@ use mathlib.Core.List.{List, [], ◌∷◌, ◌++◌, append_assoc, append-nil}
 use lib.ListN.{length, get_or, set, take, drop, length-take}
 use lib.Seq.{take-suc, take-length, drop-cons, drop-length, set-append_seam}
 use Rattle.model.specs.declared.state.Exchange.{Exchange}
-use Rattle.model.specs.declared.answer.Answer.{Answer}
-use Rattle.model.specs.declared.answer.Answer.TheVariants.{Accepted, Refused}
+use Rattle.model.specs.Answers.{Answer}
 use Rattle.model.specs.declared.answer.Refusal.TheVariants.{BadOrderList}
 use Rattle.model.specs.declared.orders.OrderFields.{OrderFields}
 use Rattle.model.specs.declared.orders.AnswerPlace.{AnswerPlace}
 use Rattle.model.specs.Run.{after_calls, answers_to_calls}
 use Rattle.model.specs.OrderLists.{Listed, list_done, list_refused, orders_of}
 use Rattle.model.proofs.OrderLists.{all_answered, done_answers, done_state, tested}
-use Rattle.std.proofs.Common.{add-one}
+use Rattle.std.proofs.Common.{add-one, Ok, Err}
 use Rattle.order_list.specs.declared.PlacedOne.{PlacedOne}
 use Rattle.order_list.specs.Walk.{list_answer, orders_made, placed_one}
 use Rattle.order_list.proofs.Turns.{state}
@@ -26,7 +25,7 @@ abbrev pub no_order : OrderFields
 no_order = record { ticket = 0; member = 0; market = 0; side = 0; limit = 0; amount = 0 }
 
 abbrev pub no_place : AnswerPlace
-no_place = record { answer = Accepted 0 0 }
+no_place = record { answer = Ok (0, 0) }
 
 abbrev pub after : Exchange → OrderFields → Exchange
 after x f = (placed_one x f).exchange
@@ -97,10 +96,10 @@ module _ (x : Exchange) (fs : List OrderFields) (d : OrderFields) (ys : List Ans
     pub in_list : n ≤ length fs
     pub in_places : n ≤ length ys
 
-  refused_walked : Walked (Refused BadOrderList) (list_refused x ys BadOrderList) 0
+  refused_walked : Walked (Err BadOrderList) (list_refused x ys BadOrderList) 0
   refused_walked = record { answer_is = refl; state_is = refl; answers_are = refl; in_list = omega arith; in_places = omega arith }
 
-  all_walked : length fs ≡ length ys → Walked (Accepted 0 0) (list_done x fs) (length fs)
+  all_walked : length fs ≡ length ys → Walked (Ok (0, 0)) (list_done x fs) (length fs)
   all_walked same =
       record {
         answer_is = refl;
@@ -118,7 +117,7 @@ module _ (x : Exchange) (fs : List OrderFields) (d : OrderFields) (ys : List Ans
   -- by the two tests
   abbrev Cases : Bool → Type 0
   Cases t =
-      let answer : Answer = cond t (Refused BadOrderList) (Accepted 0 0) in
+      let answer : Answer = cond t (Err BadOrderList) (Ok (0, 0)) in
       Walked answer (cond t (list_refused x ys BadOrderList) (list_done x fs)) (orders_made answer (length fs))
 
   pub walked_list : Walked (list_answer (length fs) (length ys)) (orders_of x fs ys) (orders_made (list_answer (length fs) (length ys)) (length fs))

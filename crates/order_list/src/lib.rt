@@ -39,12 +39,12 @@ fn list_answer(orders: usize, places: usize) -> Answer
     ensures { result ≡ list_answer orders places }
 {
     if orders != places {
-        return Answer::Refused(Refusal::BadOrderList);
+        return Err(Refusal::BadOrderList);
     }
     if MOST_ORDERS < orders {
-        return Answer::Refused(Refusal::BadOrderList);
+        return Err(Refusal::BadOrderList);
     }
-    Answer::Accepted(0, 0)
+    Ok((0, 0))
 }
 
 // How many orders the call makes: all, or none where it is refused.
@@ -52,8 +52,8 @@ fn orders_made(answer: Answer, orders: usize) -> usize
     ensures { result ≡ orders_made answer orders }
 {
     match answer {
-        Answer::Accepted(_, _) => orders,
-        Answer::Refused(_) => 0,
+        Ok(_) => orders,
+        Err(_) => 0,
     }
 }
 

@@ -28,12 +28,10 @@ use Rattle.model.specs.declared.state.Phase.{Phase}
 use Rattle.model.specs.declared.state.Phase.TheVariants.{Closed, Auction, Paying}
 use Rattle.model.specs.declared.state.Market.{Market}
 use Rattle.model.specs.declared.state.Exchange.{Exchange}
-use Rattle.model.specs.declared.answer.Answer.TheVariants.{Accepted, Refused}
 use Rattle.model.specs.declared.answer.Outcome.{Outcome}
 use Rattle.model.specs.declared.answer.Refusal.{Refusal}
 use Rattle.model.specs.declared.answer.Refusal.TheVariants.{NoSuchOrder, WrongTicketState}
-use Rattle.parts.specs.declared.Form.{Form}
-use Rattle.parts.specs.declared.Form.TheVariants.{Good, Bad}
+use Rattle.parts.specs.After.{Form}
 use Rattle.model.specs.Sides.{side_of, offered, wanted, gives, takes}
 use Rattle.model.specs.State.{supply, last_block, ticket, free_ticket, order_in, is_free, resting_or, phase, closed_market, round_in, market_at, set_market, set_ledger, set_supply, set_residue, set_tickets, set_markets, set_last, with_ticket, with_phase, credit, to_residue}
 use Rattle.model.specs.Calls.{bank_form, order_form, cancel_form, open_form, ticket_form, market_form, bid_form, deposit_rest, withdraw_rest, order_rest, cancel_rest, open_rest, enter_rest, match_rest, bid_rest, settle_rest, claim_rest, leave_rest, accept, refuse, above, outside, bid_quote, bid_round, deposit_of, deposit_done, withdraw_of, order_of, order_done, cancel_of, cancel_done, open_of, open_done, enter_of, enter_with, enter_done, match_of, match_done, bid_of, bid_done, settle_of, settle_done, claimed_round, paying_or_closed, claim_of, claim_with, claim_done, leave_of, leave_with, leave_done, share_in, got_in, order_from}
@@ -50,44 +48,44 @@ on_form : (x : Exchange) (ts us : List (Test Refusal)) (out mid : Outcome) → (
 unfolding form_of
 on_form x ts us out mid h =
     decide_split (refuse x) out mid ts us h
-    ∙ sym (decide_carried (λ (f : Form). by_form f (refuse x) mid) Bad Good (refuse x) mid ts (λ r. refl) (λ p. refl))
+    ∙ sym (decide_carried (λ (f : Form). by_form f (refuse x) mid) Err (Ok tt) (refuse x) mid ts (λ r. refl) (λ p. refl))
 
 -- a good form passed every test
-pub form_good : (ts : List (Test Refusal)) → form_of ts ≡ Good → Passed ts
+pub form_good : (ts : List (Test Refusal)) → form_of ts ≡ (Ok tt) → Passed ts
 unfolding form_of
-form_good ts e = passed_by (λ (f : Form). f ≡ Good) Bad Good (λ r q. absurd (let z : ◌≡◌ {A = ℕ} 0 1 = cc in omega arith)) ts e
+form_good ts e = passed_by (λ (f : Form). f ≡ (Ok tt)) Err (Ok tt) (λ r q. absurd (let z : ◌≡◌ {A = ℕ} 0 1 = cc in omega arith)) ts e
 
 -- the places that a good form names
 bank_in : (m t n : ℕ) → Passed (bank_form m t n) → (m < 16) × (t < 4)
 bank_in m t n p = (omega (arith, ltb-false 15 m p.0), omega (arith, ltb-false 3 t p.1.0))
 
-pub bank_places : (m t n : ℕ) → form_of (bank_form m t n) ≡ Good → (m < 16) × (t < 4)
+pub bank_places : (m t n : ℕ) → form_of (bank_form m t n) ≡ (Ok tt) → (m < 16) × (t < 4)
 bank_places m t n e = bank_in m t n (form_good (bank_form m t n) e)
 
 order_in_lem : (k m n side limit a : ℕ) → Passed (order_form k m n side limit a) → (k < 64) × (m < 16) × (n < 4)
 order_in_lem k m n side limit a p =
     (omega (arith, ltb-false 63 k p.1.1.0), omega (arith, ltb-false 15 m p.0), omega (arith, (inside n 1 3 p.1.0).1))
 
-pub order_places : (k m n side limit a : ℕ) → form_of (order_form k m n side limit a) ≡ Good → (k < 64) × (m < 16) × (n < 4)
+pub order_places : (k m n side limit a : ℕ) → form_of (order_form k m n side limit a) ≡ (Ok tt) → (k < 64) × (m < 16) × (n < 4)
 order_places k m n side limit a e = order_in_lem k m n side limit a (form_good (order_form k m n side limit a) e)
 
 cancel_in : (k m : ℕ) → Passed (cancel_form k m) → (k < 64) × (m < 16)
 cancel_in k m p = (omega (arith, ltb-false 63 k p.1.0), omega (arith, ltb-false 15 m p.0))
 
-pub cancel_places : (k m : ℕ) → form_of (cancel_form k m) ≡ Good → (k < 64) × (m < 16)
+pub cancel_places : (k m : ℕ) → form_of (cancel_form k m) ≡ (Ok tt) → (k < 64) × (m < 16)
 cancel_places k m e = cancel_in k m (form_good (cancel_form k m) e)
 
-pub open_places : (n r w len : ℕ) → form_of (open_form n r w len) ≡ Good → (0 < n) × (n < 4) × (r ≤ highest_reference) × (w ≤ highest_slack)
+pub open_places : (n r w len : ℕ) → form_of (open_form n r w len) ≡ (Ok tt) → (0 < n) × (n < 4) × (r ≤ highest_reference) × (w ≤ highest_slack)
 open_places n r w len e =
     let p = form_good (open_form n r w len) e in
     let q = or_false (outside r 1 highest_reference) (above w highest_slack || outside len 1 64) p.1.0 in
     let i = inside n 1 3 p.0 in
     (omega (arith, i.0), omega (arith, i.1), (inside r 1 highest_reference q.0).1, ltb-false highest_slack w (or_false (above w highest_slack) (outside len 1 64) q.1).0)
 
-pub ticket_place : (k : ℕ) → form_of (ticket_form k) ≡ Good → k < 64
+pub ticket_place : (k : ℕ) → form_of (ticket_form k) ≡ (Ok tt) → k < 64
 ticket_place k e = omega (arith, ltb-false 63 k (form_good (ticket_form k) e).0)
 
-pub market_in : (n : ℕ) → form_of (market_form n) ≡ Good → (0 < n) × (n < 4)
+pub market_in : (n : ℕ) → form_of (market_form n) ≡ (Ok tt) → (0 < n) × (n < 4)
 market_in n e =
     let i = inside n 1 3 (form_good (market_form n) e).0 in
     (omega (arith, i.0), omega (arith, i.1))
@@ -97,7 +95,7 @@ bid_in n m side a p =
     let i = inside n 1 3 p.1.0 in
     (omega (arith, i.0), omega (arith, i.1), omega (arith, ltb-false 15 m p.0))
 
-pub bid_places : (n m side a : ℕ) → form_of (bid_form n m side a) ≡ Good → (0 < n) × (n < 4) × (m < 16)
+pub bid_places : (n m side a : ℕ) → form_of (bid_form n m side a) ≡ (Ok tt) → (0 < n) × (n < 4) × (m < 16)
 bid_places n m side a e = bid_in n m side a (form_good (bid_form n m side a) e)
 
 -- ---- parts put back as they were
@@ -120,7 +118,7 @@ market_back ms (suc i) = set-get_or ms i closed_market
 
 back : (x : Exchange) (l : Ledger) (supply residue : List Amount) (tickets : List Ticket) (markets : List Market) (w : Refusal)
     → l ≡ x.ledger → supply ≡ x.supply → residue ≡ x.residue → tickets ≡ x.tickets → markets ≡ x.markets
-    → ◌≡◌ {A = Outcome} (record { answer = Refused w; exchange = set_markets (set_tickets (set_residue (set_supply (set_ledger x l) supply) residue) tickets) markets }) (refuse x w)
+    → ◌≡◌ {A = Outcome} (record { answer = Err w; exchange = set_markets (set_tickets (set_residue (set_supply (set_ledger x l) supply) residue) tickets) markets }) (refuse x w)
 back x l s r t m w el es er et em = rw (el, es, er, et, em)
 
 -- ---- 1, 2
@@ -191,7 +189,7 @@ module _ (x : Exchange) (b : Bounded x) (m k : ℕ) where
       put_ledger : Exchange → ℕ → Ledger → ℕ → Outcome
       put_ledger x k l n =
           record {
-            answer = Accepted n 0;
+            answer = Ok (n, 0);
             exchange = set_tickets (set_ledger x l) (set x.tickets k free_ticket);
           }
 
@@ -300,7 +298,7 @@ module _ (x : Exchange) (n m at : ℕ) (z : Shaped x.ledger) where
       traded : Exchange → ℕ → ℕ → Round → Side → ℕ → ℕ → Ledger → Outcome
       traded x n at r s base q l =
           record {
-            answer = Accepted base q;
+            answer = Ok (base, q);
             exchange = set_last (set_markets (set_ledger x l) (set_market x.markets n (record { phase = Auction (bid_round r s base q) }))) (block at);
           }
 
@@ -321,7 +319,7 @@ module _ (x : Exchange) (k : ℕ) (s : TicketState) (e : ticket_at x k ≡ recor
 claimed : Exchange → ℕ → Order → ℕ → ℕ → Ledger → List Amount → Phase → Outcome
 claimed x k o s got l residue p =
     record {
-      answer = Accepted s got;
+      answer = Ok (s, got);
       exchange = set_markets (set_tickets (set_residue (set_ledger x l) residue) (set x.tickets k (record { state = resting_or o (o.offer.0 - s) }))) (set_market x.markets o.market (record { phase = p }));
     }
 

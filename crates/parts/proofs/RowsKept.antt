@@ -14,10 +14,7 @@ use Rattle.model.specs.declared.state.Market.{Market}
 use Rattle.model.specs.Sides.{offered, wanted, gives, takes}
 use Rattle.model.specs.State.{order_in, round_in}
 use Rattle.model.specs.Calls.{share_in, got_in, deposit_rest, withdraw_rest, order_rest, cancel_rest, bid_rest, claim_rest, bid_quote, claimed_round}
-use Rattle.parts.specs.declared.Banked.{Banked}
-use Rattle.parts.specs.declared.Placed.{Placed}
-use Rattle.parts.specs.declared.Traded.{Traded}
-use Rattle.parts.specs.declared.Claimed.{Claimed}
+use Rattle.parts.specs.After.{Claimed, Traded, Placed, Banked}
 use Rattle.parts.specs.Parts.{refused_banked, deposited_on, deposit_on, withdrawn_on, withdraw_on, refused_placed, ordered_on, order_on, cancelled_on, cancel_on, refused_traded, traded_on, bid_on, refused_claimed, paid_on, claim_on}
 
 module _ (row : Row) (z : RowShaped row) where

@@ -1,6 +1,6 @@
 -- The calls on the parts of the state that they touch: what a form comes to, a call's work on its parts, and the state with the parts put back.
 -- The laws in proofs/OnParts.antt say that this is the call itself; a reader who believes model/specs/Calls.antt need not believe this page.
-use Rattle.std.specs.Prelude.{ℕ, ◌+◌, ◌-◌, cond, List, eqb, get_or, set}
+use Rattle.std.specs.Prelude.{ℕ, ◌+◌, ◌-◌, cond, List, eqb, get_or, set, Ok, Err}
 use Rattle.units.specs.declared.Amount.{Amount}
 use Rattle.units.specs.declared.Block.{Block}
 use Rattle.units.specs.Counts.{amount, block}
@@ -18,17 +18,9 @@ use Rattle.model.specs.declared.state.Round.{Round}
 use Rattle.model.specs.declared.state.Phase.TheVariants.{Collect, Auction}
 use Rattle.model.specs.declared.state.Market.{Market}
 use Rattle.model.specs.declared.state.Exchange.{Exchange}
-use Rattle.model.specs.declared.answer.Answer.TheVariants.{Accepted, Refused}
 use Rattle.model.specs.declared.answer.Outcome.{Outcome}
 use Rattle.model.specs.declared.answer.Refusal.{Refusal}
-use Rattle.parts.specs.declared.Form.{Form}
-use Rattle.parts.specs.declared.Form.TheVariants.{Good, Bad}
-use Rattle.parts.specs.declared.Banked.{Banked}
-use Rattle.parts.specs.declared.Placed.{Placed}
-use Rattle.parts.specs.declared.Moved.{Moved}
-use Rattle.parts.specs.declared.Joined.{Joined}
-use Rattle.parts.specs.declared.Traded.{Traded}
-use Rattle.parts.specs.declared.Claimed.{Claimed}
+use Rattle.parts.specs.After.{Claimed, Traded, Joined, Moved, Placed, Banked, Form}
 use Rattle.model.specs.Sides.{offered, wanted, gives, takes}
 use Rattle.model.specs.State.{order_in, resting_or, free_ticket, round_in, totals_of, set_market, set_ledger, set_supply, set_residue, set_tickets, set_markets, set_last}
 use Rattle.model.specs.Calls.{share_in, got_in, deposit_rest, withdraw_rest, order_rest, cancel_rest, open_rest, enter_rest, match_rest, bid_rest, settle_rest, claim_rest, leave_rest, opened_round, entered_round, left_round, trade_of, matched_round, bid_quote, bid_round, settled_phase, claimed_round}
@@ -36,12 +28,12 @@ use Rattle.model.specs.Calls.{share_in, got_in, deposit_rest, withdraw_rest, ord
 -- ---- a call's form: what its numbers alone decide
 
 unfoldable pub form_of : List (Test Refusal) → Form
-form_of ts = decide ts Bad Good
+form_of ts = decide ts Err (Ok tt)
 
 -- what is done by a form
 abbrev pub by_form : {B : Type 0} → Form → (Refusal → B) → B → B
-by_form Good refuse out = out
-by_form (Bad r) refuse out = refuse r
+by_form (Ok tt) refuse out = out
+by_form (Err r) refuse out = refuse r
 
 -- ---- a ticket's places
 
@@ -69,11 +61,11 @@ ticket_at x k = get_or x.tickets k free_ticket
 -- ---- 1, 2: a member's row and a token's supply
 
 abbrev pub refused_banked : Row → Amount → Refusal → Banked
-refused_banked row supply why = record { answer = Refused why; row = row; supply = supply }
+refused_banked row supply why = record { answer = Err why; row = row; supply = supply }
 
 abbrev pub deposited_on : Row → Amount → ℕ → ℕ → Banked
 deposited_on row supply token n =
-    record { answer = Accepted (cell_of row token + n) 0; row = credited_row row token n; supply = amount (supply.0 + n) }
+    record { answer = Ok ((cell_of row token + n), 0); row = credited_row row token n; supply = amount (supply.0 + n) }
 
 unfoldable pub deposit_on : Row → Amount → ℕ → ℕ → Banked
 deposit_on row supply token n =
@@ -81,7 +73,7 @@ deposit_on row supply token n =
 
 abbrev pub withdrawn_on : Row → Amount → ℕ → ℕ → Banked
 withdrawn_on row supply token n =
-    record { answer = Accepted (cell_of row token - n) 0; row = debited_row row token n; supply = amount (supply.0 - n) }
+    record { answer = Ok ((cell_of row token - n), 0); row = debited_row row token n; supply = amount (supply.0 - n) }
 
 unfoldable pub withdraw_on : Row → Amount → ℕ → ℕ → Banked
 withdraw_on row supply token n =
@@ -94,12 +86,12 @@ put_banked x member token p =
 -- ---- 3, 4: a member's row and a ticket
 
 abbrev pub refused_placed : Row → Ticket → Refusal → Placed
-refused_placed row ticket why = record { answer = Refused why; row = row; ticket = ticket }
+refused_placed row ticket why = record { answer = Err why; row = row; ticket = ticket }
 
 abbrev pub ordered_on : Row → Order → Placed
 ordered_on row o =
     record {
-      answer = Accepted o.offer.0 0;
+      answer = Ok (o.offer.0, 0);
       row = debited_row row (offered o.side o.market) o.offer.0;
       ticket = record { state = Resting o };
     }
@@ -111,7 +103,7 @@ order_on row t o =
 abbrev pub cancelled_on : Row → Order → Placed
 cancelled_on row o =
     record {
-      answer = Accepted o.offer.0 0;
+      answer = Ok (o.offer.0, 0);
       row = credited_row row (offered o.side o.market) o.offer.0;
       ticket = free_ticket;
     }
@@ -127,12 +119,12 @@ put_placed x member k p =
 -- ---- 5, 7, 9: a market and the last block
 
 abbrev pub refused_moved : Market → Block → Refusal → Moved
-refused_moved market last why = record { answer = Refused why; market = market; last = last }
+refused_moved market last why = record { answer = Err why; market = market; last = last }
 
 abbrev pub opened_on : ℕ → ℕ → ℕ → ℕ → Moved
 opened_on at r w len =
     record {
-      answer = Accepted (high_bound r w) (low_bound r w);
+      answer = Ok ((high_bound r w), (low_bound r w));
       market = record { phase = Collect (opened_round at r w len) };
       last = block at;
     }
@@ -144,7 +136,7 @@ open_on market last at r w len =
 abbrev pub matched_on : Round → ℕ → Moved
 matched_on r at =
     record {
-      answer = Accepted (trade_of r).base.0 (trade_of r).quote.0;
+      answer = Ok ((trade_of r).base.0, (trade_of r).quote.0);
       market = record { phase = Auction (matched_round r at (trade_of r)) };
       last = block at;
     }
@@ -156,7 +148,7 @@ match_on market last at =
 abbrev pub settled_on : Round → ℕ → Moved
 settled_on r at =
     record {
-      answer = Accepted r.buys.paid.0 r.sells.paid.0;
+      answer = Ok (r.buys.paid.0, r.sells.paid.0);
       market = record { phase = settled_phase r };
       last = block at;
     }
@@ -172,12 +164,12 @@ put_moved x market p =
 -- ---- 6, 11: a ticket and its market
 
 abbrev pub refused_joined : Ticket → Market → Refusal → Joined
-refused_joined ticket market why = record { answer = Refused why; ticket = ticket; market = market }
+refused_joined ticket market why = record { answer = Err why; ticket = ticket; market = market }
 
 abbrev pub entered_on : Order → Round → ℕ → Joined
 entered_on o r k =
     record {
-      answer = Accepted ((totals_of r o.side).total.0 + o.offer.0) 0;
+      answer = Ok (((totals_of r o.side).total.0 + o.offer.0), 0);
       ticket = record { state = Entered o };
       market = record { phase = Collect (entered_round r k o.side o.offer.0) };
     }
@@ -189,7 +181,7 @@ enter_on t market k =
 abbrev pub left_on : Order → Round → ℕ → Joined
 left_on o r k =
     record {
-      answer = Accepted o.offer.0 0;
+      answer = Ok (o.offer.0, 0);
       ticket = record { state = Resting o };
       market = record { phase = Collect (left_round r k o.side o.offer.0) };
     }
@@ -205,13 +197,13 @@ put_joined x k market p =
 -- ---- 8: a market, the maker's row and the last block
 
 abbrev pub refused_traded : Market → Row → Block → Refusal → Traded
-refused_traded market row last why = record { answer = Refused why; market = market; row = row; last = last }
+refused_traded market row last why = record { answer = Err why; market = market; row = row; last = last }
 
 -- n base for q quote in market number, at a block
 abbrev pub traded_on : Round → Row → ℕ → ℕ → Side → ℕ → ℕ → Traded
 traded_on r row number at s n q =
     record {
-      answer = Accepted n q;
+      answer = Ok (n, q);
       market = record { phase = Auction (bid_round r s n q) };
       row = credited_row (debited_row row (wanted s number) (gives s n q)) (offered s number) (takes s n q);
       last = block at;
@@ -234,7 +226,7 @@ put_traded x market member p =
 
 abbrev pub refused_claimed : Ticket → Market → Row → Amount → Amount → Refusal → Claimed
 refused_claimed ticket market row quote base why =
-    record { answer = Refused why; ticket = ticket; market = market; row = row; quote = quote; base = base }
+    record { answer = Err why; ticket = ticket; market = market; row = row; quote = quote; base = base }
 
 -- the residue's cell, with what the round still held where its last ticket is gone
 abbrev pub swept_into : Amount → Round → Amount → Amount
@@ -244,7 +236,7 @@ swept_into cell r held = cond (eqb (count_of r.tickets) 0) (amount (cell.0 + hel
 abbrev pub paid_on : Row → Amount → Amount → Order → ℕ → ℕ → Round → Claimed
 paid_on row quote base o s got r =
     record {
-      answer = Accepted s got;
+      answer = Ok (s, got);
       ticket = record { state = resting_or o (o.offer.0 - s) };
       market = record { phase = settled_phase r };
       row = credited_row row (wanted o.side o.market) got;

@@ -1,12 +1,9 @@
 -- What a line makes of the books, a ledger and one row apart from it, and what it answers: by how many numbers it has, and the first of them.
-use Rattle.std.specs.Prelude.{ℕ, cond, List, [], ◌∷◌, ◌++◌, eqb}
+use Rattle.std.specs.Prelude.{ℕ, cond, List, [], ◌∷◌, ◌++◌, eqb, Option}
 use Rattle.std.proofs.Math.Option.{Option, some, none}
 use Rattle.units.specs.Decimal.{digits}
-use Rattle.ledger.specs.declared.Entry.{Entry}
-use Rattle.ledger.specs.declared.Posting.{Posting}
-use Rattle.ledger.specs.declared.RowPosting.{RowPosting}
 use Rattle.ledger.specs.Balances.{row_of, fresh_ledger}
-use Rattle.ledger.specs.Postings.{entry_code, entry_amount, balance_of, credit_of, debit_of, credit_row_of, debit_row_of}
+use Rattle.ledger.specs.Postings.{RowPosting, Posting, Entry, entry_code, entry_amount, balance_of, credit_of, debit_of, credit_row_of, debit_row_of}
 use Rattle.postings.specs.declared.Books.{Books}
 use Rattle.postings.specs.declared.Posted.{Posted}
 

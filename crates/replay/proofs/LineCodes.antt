@@ -15,8 +15,6 @@ use Rattle.model.specs.Calls.{refuse, tests_of, done_of}
 use Rattle.model.specs.Codes.{codes_of}
 use Rattle.model.specs.Run.{step_of}
 use Rattle.model.proofs.Codes.{codes_rising}
-use Rattle.lines.specs.declared.call.Reading.{Reading}
-use Rattle.lines.specs.declared.call.Reading.TheVariants.{Read, NoCall}
 use Rattle.lines.specs.CallLines.{reading_of}
 use Rattle.lines.specs.ReadingCode.{reading_code, line_code}
 use Rattle.lines.proofs.ReadingCode.{readings_tell}
@@ -56,13 +54,13 @@ call_below x c =
 -- ---- a line
 
 module _ (x : Exchange) where
-  none_told : (r : Reading) → reading_code r ≡ 20 → (code_of (outcome_of x r).answer ≡ 20) × ((outcome_of x r).exchange ≡ x)
-  none_told (Read c) e = absurd (omega (arith, e))
-  none_told NoCall e = (refl, refl)
+  none_told : (r : Option Call) → reading_code r ≡ 20 → (code_of (outcome_of x r).answer ≡ 20) × ((outcome_of x r).exchange ≡ x)
+  none_told (Some c) e = absurd (omega (arith, e))
+  none_told None e = (refl, refl)
 
-  call_told : (r : Reading) → (reading_code r ≡ 20 → ⊥) → (reading_code r ≡ 0) × (code_of (outcome_of x r).answer < 20)
-  call_told (Read c) e = (refl, call_below x c)
-  call_told NoCall e = absurd (e refl)
+  call_told : (r : Option Call) → (reading_code r ≡ 20 → ⊥) → (reading_code r ≡ 0) × (code_of (outcome_of x r).answer < 20)
+  call_told (Some c) e = (refl, call_below x c)
+  call_told None e = absurd (e refl)
 
 pub line_codes : LineCodes
 unfolding line_outcome

@@ -2,7 +2,6 @@
 use mathlib.Core.Path.{◌≡◌, refl}
 use mathlib.Core.List.{List, [], ◌∷◌, map}
 use Prim.Native.Nat.{ℕ}
-use Rattle.model.specs.declared.answer.Answer.TheVariants.{Accepted, Refused}
 use Rattle.model.specs.declared.answer.Refusal.TheVariants.{BufferTooShort}
 use Rattle.lines.specs.CallText.{line_of_numbers, line_of_call}
 use Rattle.model.specs.State.{balance, fresh_exchange}
@@ -45,6 +44,6 @@ unfolding day_bytes state_after_lines line_request_of line_computes
 day_leaves = refl
 
 -- a call taken as its line, 1,0,0,5: the answer, 7,0,5,0 and byte 10, needs 8 bytes
-pub by_its_line : ((by_lines line_request_of fresh_exchange (deposit_asked 8)).answer ≡ Accepted 5 0) × ((by_lines line_request_of fresh_exchange (deposit_asked 7)).answer ≡ Refused BufferTooShort)
+pub by_its_line : ((by_lines line_request_of fresh_exchange (deposit_asked 8)).answer ≡ Ok (5, 0)) × ((by_lines line_request_of fresh_exchange (deposit_asked 7)).answer ≡ Err BufferTooShort)
 unfolding line_of_call line_of_numbers line_request_of line_computes
 by_its_line = (refl, refl)

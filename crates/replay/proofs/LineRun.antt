@@ -13,13 +13,11 @@ use Rattle.decimal.proofs.Put.{count_fits, count_short}
 use Rattle.lines.proofs.AnswerLines.{answer_pos}
 use Rattle.model.specs.declared.state.Exchange.{Exchange}
 use Rattle.model.specs.declared.call.Call.{Call}
-use Rattle.model.specs.declared.answer.Answer.{Answer}
-use Rattle.model.specs.declared.answer.Answer.TheVariants.{Refused}
 use Rattle.model.specs.declared.answer.Outcome.{Outcome}
 use Rattle.model.specs.declared.answer.Refusal.{Refusal}
 use Rattle.model.specs.declared.answer.Refusal.TheVariants.{MalformedLine, BufferTooShort}
 use Rattle.model.specs.declared.call.Call.TheVariants.{Claim}
-use Rattle.model.specs.Answers.{answer_line}
+use Rattle.model.specs.Answers.{Answer, answer_line}
 use Rattle.model.specs.Calls.{refuse}
 use Rattle.model.specs.State.{fresh_exchange}
 use Rattle.model.specs.Run.{Reachable, after_call, Request, fitted, request_of, Event}
@@ -27,8 +25,6 @@ use Rattle.model.specs.Submissions.{Submission, single, model_engine, events_of,
 use Rattle.model.specs.History.{History, history_of}
 use Rattle.model.specs.WholeRun.{Whole, PaysOut, got_by, order_with, paid_by}
 use Rattle.model.proofs.WholeRun.{whole_run}
-use Rattle.lines.specs.declared.call.Reading.{Reading}
-use Rattle.lines.specs.declared.call.Reading.TheVariants.{Read, NoCall}
 use Rattle.lines.specs.AnswerText.{longest_answer}
 use Rattle.lines.specs.CallLines.{reading_of}
 use Rattle.lines.specs.CallText.{line_of_call}
@@ -40,16 +36,16 @@ use Rattle.replay.specs.Lines.{outcome_of, line_outcome, line_text, LineRequest,
 -- ---- one line
 
 -- a line taken in a state that calls can leave leaves one
-reachable_reading : (x : Exchange) → Reachable x → (r : Reading) → Reachable (outcome_of x r).exchange
-reachable_reading x l (Read c) = after_call l c
-reachable_reading x l NoCall = l
+reachable_reading : (x : Exchange) → Reachable x → (r : Option Call) → Reachable (outcome_of x r).exchange
+reachable_reading x l (Some c) = after_call l c
+reachable_reading x l None = l
 
 pub reachable_line : (x : Exchange) → Reachable x → (line : List ℕ) → Reachable (line_outcome x line).exchange
 unfolding line_outcome
 reachable_line x l line = reachable_reading x l (reading_of line)
 
 -- the outcome worked out of what was read is the line's
-pub line_outcome_is : (x : Exchange) (line : List ℕ) (r : Reading) (o : Outcome) → r ≡ reading_of line → o ≡ outcome_of x r → o ≡ line_outcome x line
+pub line_outcome_is : (x : Exchange) (line : List ℕ) (r : Option Call) (o : Outcome) → r ≡ reading_of line → o ≡ outcome_of x r → o ≡ line_outcome x line
 unfolding line_outcome
 line_outcome_is x line r o e f = f ∙ ap (outcome_of x) e
 
@@ -57,24 +53,24 @@ line_outcome_is x line r o e f = f ∙ ap (outcome_of x) e
 abbrev as_request : LineRequest → Call → Request
 as_request q c = record { line = q.number; room = q.room; call = c }
 
-line_call : (x : Exchange) (q : LineRequest) (c : Call) → reading_of q.line ≡ Read c → line_request_of x q ≡ request_of x (as_request q c)
+line_call : (x : Exchange) (q : LineRequest) (c : Call) → reading_of q.line ≡ Some c → line_request_of x q ≡ request_of x (as_request q c)
 unfolding line_request_of line_outcome request_of
-line_call x q c e = ap (λ (r : Reading). fitted x q.number q.room (outcome_of x r)) e
+line_call x q c e = ap (λ (r : Option Call). fitted x q.number q.room (outcome_of x r)) e
 
 -- a line without a call leaves the state
 stays : (x : Exchange) (t : Bool) (a b : Refusal) → (cond t (refuse x a) (refuse x b)).exchange ≡ x
 stays x true a b = refl
 stays x false a b = refl
 
-line_none : (x : Exchange) (q : LineRequest) → reading_of q.line ≡ NoCall → (line_request_of x q).exchange ≡ x
+line_none : (x : Exchange) (q : LineRequest) → reading_of q.line ≡ None → (line_request_of x q).exchange ≡ x
 unfolding line_request_of line_outcome
 line_none x q e =
-    ap (λ (r : Reading). (fitted x q.number q.room (outcome_of x r)).exchange) e
-    ∙ stays x (ltb q.room (length (answer_line q.number (Refused MalformedLine)))) BufferTooShort MalformedLine
+    ap (λ (r : Option Call). (fitted x q.number q.room (outcome_of x r)).exchange) e
+    ∙ stays x (ltb q.room (length (answer_line q.number (Err MalformedLine)))) BufferTooShort MalformedLine
 
-by_reading {ℓ} : {P : Type ℓ} (r : Reading) → ((c : Call) → r ≡ Read c → P) → (r ≡ NoCall → P) → P
-by_reading (Read c) f g = f c refl
-by_reading NoCall f g = g refl
+by_reading {ℓ} : {P : Type ℓ} (r : Option Call) → ((c : Call) → r ≡ Some c → P) → (r ≡ None → P) → P
+by_reading (Some c) f g = f c refl
+by_reading None f g = g refl
 
 -- ---- with and without room
 
@@ -115,7 +111,7 @@ module _ (x : Exchange) (n : ℕ) (l xs : List ℕ) (o : Outcome) (is : o ≡ li
     counted : used ≡ put_count xs (line_text x n l)
     counted = wrote ∙ ap (put_count xs) text_is
 
-    pub take_short : used ≡ 0 → ◌≡◌ {A = Taken} (record { answered = record { answer = Refused BufferTooShort; used = 0 }; exchange = x }) (taken_of x n l (length xs))
+    pub take_short : used ≡ 0 → ◌≡◌ {A = Taken} (record { answered = record { answer = Err BufferTooShort; used = 0 }; exchange = x }) (taken_of x n l (length xs))
     unfolding taken_of
     take_short e =
         let q : LineRequest = record { number = n; room = length xs; line = l } in
@@ -141,9 +137,9 @@ abbrev event : Call → Answer → Event
 event c a = record { call = c; answer = a }
 
 -- the requests that its lines with calls are
-abbrev requested : Reading → LineRequest → List Submission → List Submission
-requested NoCall q qs = qs
-requested (Read c) q qs = single (as_request q c) ∷ qs
+abbrev requested : Option Call → LineRequest → List Submission → List Submission
+requested None q qs = qs
+requested (Some c) q qs = single (as_request q c) ∷ qs
 
 abbrev requests_in : List LineRequest → List Submission
 requests_in [] = []
@@ -180,7 +176,7 @@ same_events x (q ∷ qs) =
 -- ---- the statement
 
 -- a refused line leaves the state
-line_refused : (x : Exchange) (y : History) → Whole request_of x y → (q : LineRequest) (why : Refusal) → (line_request_of x q).answer ≡ Refused why → (line_request_of x q).exchange ≡ x
+line_refused : (x : Exchange) (y : History) → Whole request_of x y → (q : LineRequest) (why : Refusal) → (line_request_of x q).answer ≡ Err why → (line_request_of x q).exchange ≡ x
 line_refused x y w q why r =
     by_reading (reading_of q.line)
     (λ c e.

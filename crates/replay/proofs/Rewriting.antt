@@ -12,7 +12,6 @@ use Rattle.decimal.proofs.Put.{put_length, put_put, from_fits, from_nothing}
 use Rattle.fields.specs.Grammar.{on_first}
 use Rattle.model.specs.declared.call.Call.{Call}
 use Rattle.model.specs.Kinds.{numbers_of_call}
-use Rattle.lines.specs.declared.call.Reading.TheVariants.{Read}
 use Rattle.lines.specs.CallLines.{reading_of, line_in}
 use Rattle.lines.specs.CallText.{line_of_call, call_line, Small}
 use Rattle.lines.proofs.RoundTrip.{call_round, one_line, line_round}
@@ -44,13 +43,13 @@ lines_text [] = []
 lines_text (l ∷ ls) = (l ++ (10 ∷ [])) ++ lines_text ls
 
 -- calls are written as the lines that were read
-calls_lines : (ls : List (List ℕ)) (cs : List Call) → map reading_of ls ≡ map Read cs → calls_text cs ≡ lines_text ls
+calls_lines : (ls : List (List ℕ)) (cs : List Call) → map reading_of ls ≡ map Some cs → calls_text cs ≡ lines_text ls
 calls_lines [] [] e = refl
 calls_lines [] (c ∷ cs) e = absurd (omega (arith, ap length e))
 calls_lines (l ∷ ls) [] e = absurd (omega (arith, ap length e))
 calls_lines (l ∷ ls) (c ∷ cs) e =
-    let here : reading_of l ≡ Read c = cc in
-    let others : map reading_of ls ≡ map Read cs = cc in
+    let here : reading_of l ≡ Some c = cc in
+    let others : map reading_of ls ≡ map Some cs = cc in
     rw (line_round l c here, calls_lines ls cs others)
 
 -- a byte before the first of some lines

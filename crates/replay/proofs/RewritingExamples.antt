@@ -7,7 +7,6 @@ use Rattle.units.specs.Decimal.{digits}
 use Rattle.fields.specs.Grammar.{number_of, line_numbers}
 use Rattle.model.specs.declared.call.Call.{Call}
 use Rattle.model.specs.Day.{day_orders, day_collect, day_auction, day_claims}
-use Rattle.lines.specs.declared.call.Reading.{Reading}
 use Rattle.lines.specs.CallLines.{of_kind, reading_of}
 use Rattle.lines.specs.CallText.{line_of_numbers, line_of_call}
 use Rattle.replay.specs.Days.{lines_of}
@@ -24,11 +23,11 @@ pub files_rewritten : map rewritten files_of_calls ≡ files_of_calls
 unfolding files_of_calls paper_input day_orders day_collect day_auction day_claims line_trips
 files_rewritten = refl
 
-pub others_read : map (λ (e : List ℕ × List Reading × List ℕ). (e.0, map reading_of (lines_of e.0), with_end e.0)) other_files ≡ other_files
+pub others_read : map (λ (e : List ℕ × List (Option Call) × List ℕ). (e.0, map reading_of (lines_of e.0), with_end e.0)) other_files ≡ other_files
 unfolding other_files line_trips
 others_read = refl
 
-pub largest_reread_lem : map (λ (e : List Call × List Reading). (e.0, map reading_of (lines_of (calls_text e.0)))) largest_reread ≡ largest_reread
+pub largest_reread_lem : map (λ (e : List Call × List (Option Call)). (e.0, map reading_of (lines_of (calls_text e.0)))) largest_reread ≡ largest_reread
 unfolding largest_reread line_trips
 largest_reread_lem = refl
 

@@ -19,7 +19,6 @@ use Rattle.lines.proofs.CallLaws.{line_within}
 use Rattle.lines.specs.Kept.{kept_bytes}
 use Rattle.lines.proofs.KeptLaws.{kept}
 use Rattle.lines.specs.declared.call.LineAt.{LineAt}
-use Rattle.lines.specs.declared.call.Reading.TheVariants.{NoCall}
 use Rattle.replay.specs.Lines.{outcome_of, line_outcome, line_text}
 use Rattle.replay.specs.Days.{last_line}
 use Rattle.replay.specs.Pieces.{Stream, end_line, next_byte, byte_text, after, text_of, StaysReachable}
@@ -38,7 +37,7 @@ text_append s (x ∷ a) b =
 
 -- ---- the line that is kept: 81 bytes do what the whole line does
 
-too_long : (p : List ℕ) → 80 < length p → reading_of p ≡ NoCall
+too_long : (p : List ℕ) → 80 < length p → reading_of p ≡ None
 unfolding reading_of
 too_long p h = rw (line_long p h)
 

@@ -1,10 +1,8 @@
 -- Lines taken, worked by hand: with just the room, with one byte less, and in a list.
-use Rattle.std.specs.Prelude.{ℕ, List, [], ◌∷◌, ◌++◌}
-use Rattle.model.specs.declared.answer.Answer.{Answer}
-use Rattle.model.specs.declared.answer.Answer.TheVariants.{Accepted, Refused}
+use Rattle.std.specs.Prelude.{ℕ, List, [], ◌∷◌, ◌++◌, Ok, Err}
 use Rattle.model.specs.declared.answer.Refusal.TheVariants.{BufferTooShort}
 use Rattle.model.specs.declared.call.Call.TheVariants.{Deposit}
-use Rattle.model.specs.Answers.{code_of, first_of, second_of}
+use Rattle.model.specs.Answers.{Answer, code_of, first_of, second_of}
 use Rattle.model.specs.Run.{Event, Request}
 use Rattle.model.specs.State.{balance, fresh_exchange}
 use Rattle.replay.specs.declared.line.Taken.{Taken}
@@ -72,7 +70,7 @@ asked_text =
     ++ (53 ∷ 44 ∷ 48 ∷ 44 ∷ 49 ∷ 49 ∷ 44 ∷ 48 ∷ 10 ∷ [])  -- 5,0,11,0
 
 unfoldable pub asked_events : List Event
-asked_events = tells 5 (Accepted 5 0) ∷ tells 6 (Refused BufferTooShort) ∷ tells 6 (Accepted 11 0) ∷ []
+asked_events = tells 5 (Ok (5, 0)) ∷ tells 6 (Err BufferTooShort) ∷ tells 6 (Ok (11, 0)) ∷ []
 
 -- ---- the lines of a day
 

@@ -1,17 +1,15 @@
 -- A line taken, and a list of lines: document 01's "A whole run" said of lines.
-use Rattle.std.specs.Prelude.{ℕ, ◌≡◌, cond, List, [], ◌∷◌, ltb, length}
+use Rattle.std.specs.Prelude.{ℕ, ◌≡◌, cond, List, [], ◌∷◌, ltb, length, Some, None, Option}
+use Rattle.model.specs.declared.call.Call.{Call}
 use Rattle.model.specs.declared.state.Exchange.{Exchange}
-use Rattle.model.specs.declared.answer.Answer.{Answer}
 use Rattle.model.specs.declared.answer.Outcome.{Outcome}
 use Rattle.model.specs.declared.answer.Refusal.TheVariants.{MalformedLine}
 use Rattle.model.specs.State.{fresh_exchange}
-use Rattle.model.specs.Answers.{answer_line}
+use Rattle.model.specs.Answers.{Answer, answer_line}
 use Rattle.model.specs.Calls.{refuse}
 use Rattle.model.specs.Run.{Reachable, step_of, Engine, fitted, Event}
 use Rattle.model.specs.History.{History, history_of}
 use Rattle.model.specs.WholeRun.{Whole}
-use Rattle.lines.specs.declared.call.Reading.{Reading}
-use Rattle.lines.specs.declared.call.Reading.TheVariants.{Read, NoCall}
 use Rattle.lines.specs.CallLines.{reading_of}
 use Rattle.lines.specs.CallText.{line_of_call}
 use Rattle.replay.specs.declared.line.Taken.{Taken}
@@ -19,9 +17,9 @@ use Rattle.replay.specs.declared.line.Taken.{Taken}
 -- ---- one line
 
 -- what a line does: its call, or 20, "It is then no call, and 1 to 19 aren't tested"
-abbrev pub outcome_of : Exchange → Reading → Outcome
-outcome_of x NoCall = refuse x MalformedLine
-outcome_of x (Read c) = step_of x c
+abbrev pub outcome_of : Exchange → Option Call → Outcome
+outcome_of x None = refuse x MalformedLine
+outcome_of x (Some c) = step_of x c
 
 -- a line without its byte 10
 unfoldable pub line_outcome : Exchange → List ℕ → Outcome
@@ -62,9 +60,9 @@ state_after_lines g x [] = x
 state_after_lines g x (q ∷ qs) = state_after_lines g (g x q).exchange qs
 
 -- what a line tells: its call with the answer; a line that is no call tells nothing
-abbrev pub tells : Reading → Answer → List Event → List Event
-tells NoCall a es = es
-tells (Read c) a es = record { call = c; answer = a } ∷ es
+abbrev pub tells : Option Call → Answer → List Event → List Event
+tells None a es = es
+tells (Some c) a es = record { call = c; answer = a } ∷ es
 
 unfoldable pub events_of_lines : LineEngine → Exchange → List LineRequest → List Event
 events_of_lines g x [] = []
@@ -79,7 +77,7 @@ by_lines g x q = g x (record { number = q.line; room = q.room; line = line_of_ca
 -- after a list of lines: the whole-run statement, and that a line which is no call leaves the state
 pub record WholeOfLines (g : LineEngine) (x : Exchange) (y : History) : Type 0 where
   pub whole : Whole (by_lines g) x y
-  pub others_stay : (q : LineRequest) → reading_of q.line ≡ NoCall → (g x q).exchange ≡ x
+  pub others_stay : (q : LineRequest) → reading_of q.line ≡ None → (g x q).exchange ≡ x
 
 -- for every list of lines with their numbers and rooms, of any engine
 abbrev pub WholeRunOfLinesBy : LineEngine → Type 0

@@ -1,9 +1,8 @@
 -- Document 02's L1, for a file: its lines read as calls, and written again.
-use Rattle.std.specs.Prelude.{ℕ, ◌+◌, ◌≤◌, ◌≡◌, cond, List, [], ◌∷◌, ◌++◌, map, eqb, length}
+use Rattle.std.specs.Prelude.{ℕ, ◌+◌, ◌≤◌, ◌≡◌, cond, List, [], ◌∷◌, ◌++◌, map, eqb, length, Some}
 use Rattle.decimal.specs.Buffer.{put_from}
 use Rattle.model.specs.declared.call.Call.{Call}
 use Rattle.model.specs.Kinds.{numbers_of_call}
-use Rattle.lines.specs.declared.call.Reading.TheVariants.{Read}
 use Rattle.lines.specs.CallLines.{reading_of}
 use Rattle.lines.specs.CallText.{call_line, Small}
 use Rattle.replay.specs.Days.{lines_of}
@@ -23,7 +22,7 @@ CallsJoined = (out : List ℕ) (at : ℕ) (cs : List Call) → at + length (call
 
 -- every line of an input is a call, and these are the calls
 abbrev pub AreCalls : List ℕ → List Call → Type 0
-AreCalls input cs = map reading_of (lines_of input) ≡ map Read cs
+AreCalls input cs = map reading_of (lines_of input) ≡ map Some cs
 
 -- an input with byte 10 at its end: added where it has bytes and the last is another
 abbrev pub with_end : List ℕ → List ℕ

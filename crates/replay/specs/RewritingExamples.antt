@@ -1,11 +1,9 @@
 -- Files and the calls that their lines are, worked by hand: read, written again, and with byte 10 at their end.
-use Rattle.std.specs.Prelude.{ℕ, ◌+◌, ◌≡◌, List, [], ◌∷◌, ◌++◌, map, length}
+use Rattle.std.specs.Prelude.{ℕ, ◌+◌, ◌≡◌, List, [], ◌∷◌, ◌++◌, map, length, Some, None, Option}
 use Rattle.decimal.specs.Buffer.{put_from}
 use Rattle.model.specs.declared.call.Call.{Call}
 use Rattle.model.specs.declared.call.Call.TheVariants.{Deposit, Enter, Claim}
 use Rattle.model.specs.Day.{day}
-use Rattle.lines.specs.declared.call.Reading.{Reading}
-use Rattle.lines.specs.declared.call.Reading.TheVariants.{Read, NoCall}
 use Rattle.lines.specs.CallLines.{reading_of}
 use Rattle.replay.specs.Days.{lines_of}
 use Rattle.replay.specs.Examples.{paper_input}
@@ -18,16 +16,16 @@ use Rattle.replay.specs.StreamExamples.{five, six, line}
 pub record FileOfCalls : Type 0 where
   pub input : List ℕ
   pub calls : List Call
-  pub readings : List Reading
+  pub readings : List (Option Call)
   pub ended : List ℕ
   pub text : List ℕ
 
-abbrev file : List ℕ → List Call → List Reading → List ℕ → List ℕ → FileOfCalls
+abbrev file : List ℕ → List Call → List (Option Call) → List ℕ → List ℕ → FileOfCalls
 file input calls readings ended text = record { input = input; calls = calls; readings = readings; ended = ended; text = text }
 
 -- the calls of an input, and the text that they are written as
 abbrev of_calls : List ℕ → List Call → List ℕ → FileOfCalls
-of_calls input calls text = file input calls (map Read calls) text text
+of_calls input calls text = file input calls (map Some calls) text text
 
 -- the same input and calls, with what the definitions give
 abbrev pub rewritten : FileOfCalls → FileOfCalls
@@ -46,14 +44,14 @@ files_of_calls =
 -- ---- some line is none
 
 -- an input, what its lines are read as, and the input with byte 10 at its end
-unfoldable pub other_files : List (List ℕ × List Reading × List ℕ)
+unfoldable pub other_files : List (List ℕ × List (Option Call) × List ℕ)
 other_files =
-    ((10 ∷ []), (NoCall ∷ []), (10 ∷ []))  -- LF
-    ∷ ((9 ∷ []), (NoCall ∷ []), (9 ∷ 10 ∷ []))  -- TAB
-    ∷ ((11 ∷ []), (NoCall ∷ []), (11 ∷ 10 ∷ []))  -- VT
-    ∷ (line five ++ line [], (Read (Deposit 0 0 5) ∷ NoCall ∷ []), line five ++ line [])  -- 1,0,0,5LF LF
-    ∷ (line [] ++ five, (NoCall ∷ Read (Deposit 0 0 5) ∷ []), line [] ++ line five)  -- LF 1,0,0,5
-    ∷ ((54 ∷ 44 ∷ 48 ∷ 48 ∷ 10 ∷ []), (NoCall ∷ []), (54 ∷ 44 ∷ 48 ∷ 48 ∷ 10 ∷ []))  -- 6,00LF
+    ((10 ∷ []), (None ∷ []), (10 ∷ []))  -- LF
+    ∷ ((9 ∷ []), (None ∷ []), (9 ∷ 10 ∷ []))  -- TAB
+    ∷ ((11 ∷ []), (None ∷ []), (11 ∷ 10 ∷ []))  -- VT
+    ∷ (line five ++ line [], (Some (Deposit 0 0 5) ∷ None ∷ []), line five ++ line [])  -- 1,0,0,5LF LF
+    ∷ (line [] ++ five, (None ∷ Some (Deposit 0 0 5) ∷ []), line [] ++ line five)  -- LF 1,0,0,5
+    ∷ ((54 ∷ 44 ∷ 48 ∷ 48 ∷ 10 ∷ []), (None ∷ []), (54 ∷ 44 ∷ 48 ∷ 48 ∷ 10 ∷ []))  -- 6,00LF
     ∷ []
 
 -- ---- the largest numbers
@@ -62,10 +60,10 @@ abbrev pub largest_calls : List Call
 largest_calls = Claim 4294967295 ∷ Enter 4294967295 ∷ []
 
 -- calls, and what the lines of their text are read as: "a value above 4,294,967,295" is no call's
-unfoldable pub largest_reread : List (List Call × List Reading)
+unfoldable pub largest_reread : List (List Call × List (Option Call))
 largest_reread =
-    (largest_calls, map Read largest_calls)
-    ∷ ((Claim 4294967296 ∷ Enter 4294967295 ∷ []), (NoCall ∷ Read (Enter 4294967295) ∷ []))
+    (largest_calls, map Some largest_calls)
+    ∷ ((Claim 4294967296 ∷ Enter 4294967295 ∷ []), (None ∷ Some (Enter 4294967295) ∷ []))
     ∷ []
 
 -- ---- by the writer, from place 2 on

@@ -1,16 +1,15 @@
-// One line taken, the state by value.
+// One line taken.
 ghost use Rattle.std.specs.Prelude.{◌≡◌, ◌≤◌, length};
 ghost use Rattle.decimal.specs.Buffer.{put_into};
-ghost use Rattle.model.specs.Calls.{refuse};
 ghost use Rattle.model.specs.Run.{Reachable};
-ghost use Rattle.model.specs.declared.answer.Refusal.TheVariants.{MalformedLine};
 ghost use Rattle.lines.specs.AnswerText.{longest_answer};
 ghost use Rattle.replay.specs.Lines.{outcome_of, line_text, taken_of};
 
-use exchange::step;
+use exchange::apply;
 use lines::answer::write_answer;
-use lines::call::{Reading, read_call};
-use model::answer::{Answer, Outcome, Refusal};
+use lines::call::read_call;
+use model::answer::{Answer, Refusal};
+use model::call::Call;
 use model::state::Exchange;
 
 // A line's answer, and how many bytes its answer line took.
@@ -27,25 +26,13 @@ pub struct Taken {
     pub exchange: Exchange,
 }
 
-// A line that is no call leaves the state (20).
-fn no_call(x: Exchange) -> Outcome
-    ensures { result ≡ refuse x MalformedLine }
+// What a line that was read does to a state lent to it: its call, or 20, which leaves the state.
+pub fn apply_reading(x: &mut Exchange, reading: Option<Call>) -> Answer
+    requires { Reachable x.old }
+    ensures { record { answer = result; exchange = x.new } ≡ outcome_of x.old reading }
 {
-    Outcome {
-        answer: Answer::Refused(Refusal::MalformedLine),
-        exchange: x,
-    }
-}
-
-// What a line that was read does.
-pub fn outcome_of(x: Exchange, reading: Reading) -> Outcome
-    requires { Reachable x }
-    ensures { result ≡ outcome_of x reading }
-{
-    match reading {
-        Reading::Read(c) => step(x, c),
-        Reading::NoCall => no_call(x),
-    }
+    let c = reading.ok_or(Refusal::MalformedLine)?;
+    apply(x, c)
 }
 
 // Takes one line, without its byte 10, and writes its answer line at the start of out. 21 where out is too short: the state and out stay
@@ -56,20 +43,20 @@ pub fn take_line(x: Exchange, number: u32, line: &[u8], out: &mut [u8]) -> Taken
     ensures out_after { out.new ≡ put_into out.old (line_text x number line.now) }
     ensures line_len_bound { length (line_text x number line.now) ≤ longest_answer }
 {
-    let o = outcome_of(x, read_call(line));
-    let answer = o.answer;
-    let exchange = o.exchange;
+    let mut exchange = x;
+    let answer = apply_reading(&mut exchange, read_call(line));
     let used = write_answer(out, number, answer);
     if used == 0 {
-        let answered = Answered {
-            answer: Answer::Refused(Refusal::BufferTooShort),
-            used: 0,
-        };
         return Taken {
-            answered,
+            answered: Answered {
+                answer: Err(Refusal::BufferTooShort),
+                used,
+            },
             exchange: x,
         };
     }
-    let answered = Answered { answer, used };
-    Taken { answered, exchange }
+    Taken {
+        answered: Answered { answer, used },
+        exchange,
+    }
 }

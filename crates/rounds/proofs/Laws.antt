@@ -10,8 +10,7 @@ use Rattle.pricing.specs.declared.Trade.{Trade}
 use Rattle.model.specs.declared.state.Round.{Round}
 use Rattle.model.specs.declared.state.Phase.TheVariants.{Collect, Auction}
 use Rattle.model.specs.declared.state.Market.{Market}
-use Rattle.parts.specs.declared.Moved.{Moved}
-use Rattle.model.specs.declared.answer.Answer.TheVariants.{Accepted}
+use Rattle.parts.specs.After.{Moved}
 use Rattle.model.specs.declared.answer.Refusal.TheVariants.{WrongPhase, StaleBlock, TooEarly}
 use Rattle.model.specs.State.{is_closed, is_collect, opened_between}
 use Rattle.model.specs.Calls.{matched_round}
@@ -23,7 +22,7 @@ use Rattle.parts.specs.Parts.{refused_moved, opened_on, open_on, matched_on, mat
 abbrev pub opened_with : ℕ → ℕ → ℕ → Price → Price → Moved
 opened_with at reference len hi lo =
     record {
-      answer = Accepted hi.0 lo.0;
+      answer = Ok (hi.0, lo.0);
       market = record { phase = Collect (opened_between at reference len hi lo) };
       last = block at;
     }
@@ -47,7 +46,7 @@ module _ (market : Market) (last : Block) (at reference slack len : ℕ) where
 abbrev pub matched_with : Round → ℕ → Trade → Moved
 matched_with r at t =
     record {
-      answer = Accepted t.base.0 t.quote.0;
+      answer = Ok (t.base.0, t.quote.0);
       market = record { phase = Auction (matched_round r at t) };
       last = block at;
     }

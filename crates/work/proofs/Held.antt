@@ -15,9 +15,7 @@ use Rattle.model.specs.declared.state.TicketState.{TicketState}
 use Rattle.model.specs.declared.state.Phase.TheVariants.{Paying}
 use Rattle.model.specs.declared.state.Market.{Market as State_as_Market}
 use Rattle.model.specs.declared.state.Exchange.{Exchange}
-use Rattle.parts.specs.declared.Joined.{Joined}
-use Rattle.parts.specs.declared.Traded.{Traded}
-use Rattle.parts.specs.declared.Claimed.{Claimed}
+use Rattle.parts.specs.After.{Claimed, Traded, Joined}
 use Rattle.model.specs.State.{closed_market, ticket, market_at, set_ledger, set_supply, set_residue, set_tickets, set_markets, set_last}
 use Rattle.model.specs.Bounds.{Bounded}
 use Rattle.parts.specs.Asked.{ClaimFits}
@@ -31,9 +29,8 @@ use Rattle.model.proofs.ReachBounds.{reachable_bounded}
 use Rattle.work.specs.declared.AccountAct.{AccountAct}
 use Rattle.work.specs.declared.MarketAct.{MarketAct}
 use Rattle.work.specs.declared.EntryAct.{EntryAct}
-use Rattle.work.specs.declared.Posted.{Posted}
 use Rattle.work.specs.declared.Work.TheVariants.{Account, Market, Entry, Claim}
-use Rattle.work.specs.Work.{work_done, PlacesExist, AccountFits, account_on, MarketFits, market_on, EntryFits, entry_on, put_posted}
+use Rattle.work.specs.Work.{Posted, work_done, PlacesExist, AccountFits, account_on, MarketFits, market_on, EntryFits, entry_on, put_posted}
 use Rattle.work.proofs.Laws.{account_fits, market_fits, entry_fits}
 
 -- the state that the two locals hold

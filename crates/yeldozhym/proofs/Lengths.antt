@@ -17,8 +17,6 @@ use Rattle.pricing.proofs.Prices.{high_le, low_le}
 use Rattle.pricing.proofs.Trades.{trade_fits}
 use Rattle.lines.specs.AnswerText.{header, longest_answer}
 use Rattle.lines.specs.CallLines.{reading_of}
-use Rattle.lines.specs.declared.call.Reading.{Reading}
-use Rattle.lines.specs.declared.call.Reading.TheVariants.{Read, NoCall}
 use Rattle.lines.proofs.AnswerLines.{answer_bound}
 use Rattle.model.specs.declared.state.Exchange.{Exchange}
 use Rattle.model.specs.declared.state.Order.{Order}
@@ -27,9 +25,8 @@ use Rattle.model.specs.declared.state.Phase.TheVariants.{Collect, Auction, Payin
 use Rattle.model.specs.declared.state.TicketState.{TicketState}
 use Rattle.model.specs.declared.state.TicketState.TheVariants.{Resting, Entered}
 use Rattle.model.specs.declared.call.Call.{Call}
-use Rattle.model.specs.declared.answer.Answer.{Answer}
 use Rattle.model.specs.declared.answer.Outcome.{Outcome}
-use Rattle.model.specs.Answers.{first_of, second_of}
+use Rattle.model.specs.Answers.{Answer, first_of, second_of}
 use Rattle.model.specs.Bounds.{Bounded, OrderBounds, TicketBounds, PhaseBounds, RoundBounds}
 use Rattle.model.specs.Calls.{bid_quote, done_of, not_available, outside, above, tests_of}
 use Rattle.model.specs.Run.{Reachable, at_first, step_of}
@@ -158,9 +155,9 @@ module _ (x : Exchange) (b : Bounded x) where
 
 -- ---- answer lines
 
-reading_small : (x : Exchange) → Reachable x → (r : Reading) → Small (outcome_of x r).answer
-reading_small x l NoCall = record { first = omega arith; second = omega arith }
-reading_small x l (Read c) = step_small x (reachable_bounded x l) c
+reading_small : (x : Exchange) → Reachable x → (r : Option Call) → Small (outcome_of x r).answer
+reading_small x l None = record { first = omega arith; second = omega arith }
+reading_small x l (Some c) = step_small x (reachable_bounded x l) c
 
 line_short : (x : Exchange) → Reachable x → (n : ℕ) → n ≤ largest → (line : List ℕ) → length (line_text x n line) ≤ longest_answer
 unfolding line_text line_outcome

@@ -9,15 +9,14 @@ use Rattle.ledger.specs.declared.Row.{Row}
 use Rattle.ledger.specs.Balances.{cell_of, credited_row, debited_row}
 use Rattle.model.specs.declared.state.Round.{Round}
 use Rattle.model.specs.declared.state.Phase.TheVariants.{Auction}
-use Rattle.model.specs.declared.answer.Answer.TheVariants.{Accepted}
-use Rattle.parts.specs.declared.Traded.{Traded}
+use Rattle.parts.specs.After.{Traded}
 use Rattle.model.specs.Sides.{offered, wanted, gives, takes}
 use Rattle.bids.proofs.Laws.{trade_short, trade_done, takes_fit}
 use Rattle.bids.proofs.trade.Goals as goal
 
 -- accepted at a block, with a round and a row
 traded : ℕ → ℕ → ℕ → Round → Row → Traded
-traded at n q r row = record { answer = Accepted n q; market = record { phase = Auction r }; row = row; last = block at }
+traded at n q r row = record { answer = Ok (n, q); market = record { phase = Auction r }; row = row; last = block at }
 
 pub returns-then-below : goal.returns-then-below
 returns-then-below c =

@@ -3,17 +3,16 @@ use mathlib.Core.Path.{sym, ap, ◌∙◌}
 use lib.ListN.{length}
 use Rattle.decimal.specs.Buffer.{put_from}
 use Rattle.decimal.proofs.Put.{from_nothing}
-use Rattle.lines.specs.declared.call.Reading.{Reading}
 use Rattle.call_writer.specs.Writing.{line_of_reading, written_length, written_of}
 use Rattle.call_writer.proofs.WritingLaws.{told_nothing}
 use Rattle.call_writer.proofs.write_call_of_fields.Goals as goal
 
-pub returns-in-NoCall-clause-value : goal.returns-in-NoCall-clause-value
-returns-in-NoCall-clause-value c =
+pub returns-in-None-clause-value : goal.returns-in-None-clause-value
+returns-in-None-clause-value c =
     told_nothing (length c.args.out.now) c.args.at
-    ∙ ap (λ (r : Reading). written_length (written_of (length c.args.out.now) c.args.at (line_of_reading r))) (sym (sym c.call_of_fields.ensures ∙ c.in-NoCall.is))
+    ∙ ap (λ (r : Option Call). written_length (written_of (length c.args.out.now) c.args.at (line_of_reading r))) (sym (sym c.call_of_fields.ensures ∙ c.in-None.is))
 
-pub returns-in-NoCall-clause-out_after : goal.returns-in-NoCall-clause-out_after
-returns-in-NoCall-clause-out_after c =
+pub returns-in-None-clause-out_after : goal.returns-in-None-clause-out_after
+returns-in-None-clause-out_after c =
     sym (from_nothing c.args.out.now c.args.at)
-    ∙ ap (λ (r : Reading). put_from c.args.out.now c.args.at (line_of_reading r)) (sym (sym c.call_of_fields.ensures ∙ c.in-NoCall.is))
+    ∙ ap (λ (r : Option Call). put_from c.args.out.now c.args.at (line_of_reading r)) (sym (sym c.call_of_fields.ensures ∙ c.in-None.is))

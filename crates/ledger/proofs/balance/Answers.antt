@@ -1,9 +1,8 @@
 -- `ledger::balance` meets its contract.
-use Rattle.std.proofs.Common.{ℕ, sym, ap, ◌∙◌, arith}
+use Rattle.std.proofs.Common.{ℕ, sym, ap, ◌∙◌, arith, Ok}
 use borrow.Author.Tests.{lt-ltb, le-ltb}
 use Rattle.units.specs.Counts.{amount}
 use Rattle.ledger.specs.declared.Row.{Row}
-use Rattle.ledger.specs.declared.Entry.TheVariants.{Done}
 use Rattle.ledger.specs.Balances.{cell_of}
 use Rattle.ledger.specs.Postings.{balance_of}
 use Rattle.ledger.proofs.Rows.{balance_row}
@@ -22,7 +21,7 @@ returns-then-token-gt-LAST_TOKEN c =
 pub returns : goal.returns
 returns c =
     let s = c.args in
-    ap Done c.cell_of.ensures
-    ∙ ap (λ (r : Row). Done (amount (cell_of r s.token))) c.row_of.ensures
-    ∙ ap (λ (n : ℕ). Done (amount n)) (sym (balance_row s.l s.member s.token))
+    ap Ok c.cell_of.ensures
+    ∙ ap (λ (r : Row). Ok (amount (cell_of r s.token))) c.row_of.ensures
+    ∙ ap (λ (n : ℕ). Ok (amount n)) (sym (balance_row s.l s.member s.token))
     ∙ sym ((balance_calls s.l s.member s.token).done (omega arith) (omega arith))

@@ -1,7 +1,6 @@
 -- `work::account_work` meets its contract.
 use mathlib.Core.Path.{sym, ap, ◌∙◌, subst}
-use Rattle.parts.specs.declared.Banked.{Banked}
-use Rattle.parts.specs.declared.Placed.{Placed}
+use Rattle.parts.specs.After.{Placed, Banked}
 use Rattle.work.specs.Work.{AccountFits, account_on, posted_bank, posted_book}
 use Rattle.work.proofs.account_work.Goals as goal
 

@@ -1,6 +1,6 @@
 -- `work::market_work` meets its contract.
 use mathlib.Core.Path.{sym, ap, ◌∙◌, subst}
-use Rattle.parts.specs.declared.Moved.{Moved}
+use Rattle.parts.specs.After.{Moved}
 use Rattle.work.specs.Work.{MarketFits, market_on, traded_move}
 use Rattle.work.proofs.market_work.Goals as goal
 

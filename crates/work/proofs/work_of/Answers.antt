@@ -4,7 +4,7 @@ use Prim.Native.Nat.{ℕ}
 use Rattle.units.specs.Counts.{amount, block, price}
 use Rattle.pricing.specs.declared.Side.{Side}
 use Rattle.model.specs.declared.call.Call.{Call}
-use Rattle.parts.specs.declared.Form.{Form}
+use Rattle.parts.specs.After.{Form}
 use Rattle.model.specs.Sides.{side_of}
 use Rattle.model.specs.Calls.{order_form, bid_form}
 use Rattle.parts.specs.Parts.{form_of, by_form}

@@ -6,8 +6,7 @@ use borrow.Author.Tests.{le-leb}
 use lib.Dec.{leb}
 use lib.ListN.{length}
 use Rattle.units.specs.Decimal.{digits}
-use Rattle.model.specs.declared.answer.Answer.{Answer}
-use Rattle.model.specs.Answers.{first_of, second_of, answer_line}
+use Rattle.model.specs.Answers.{Answer, first_of, second_of, answer_line}
 use Rattle.lines.specs.AnswerText.{longest_answer}
 use Rattle.lines.proofs.AnswerLines.{line_length, answer_bound}
 use Rattle.lines.proofs.answer.has_room.Goals as goal

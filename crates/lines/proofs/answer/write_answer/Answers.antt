@@ -46,31 +46,31 @@ write_accepted-requires c =
     let w = c.write_field-next in
     let fits = leb-true _ _ (sym c.has_room.ensures.value ∙ c.if-not-has_room.false) in
     left c.args.out.now c.args.number _ _ _ _ (numbered _ _ _ _ w.ensures.value w.ensures.out_after)
-    (accepted_line c.args.number c.in-Accepted.first c.in-Accepted.second c.args.a c.in-Accepted.is) fits w.auto.out
+    (accepted_line c.args.number c.in-Ok.first c.in-Ok.second c.args.a c.in-Ok.is) fits w.auto.out
 
 pub write_refused-requires : goal.write_refused-requires
 write_refused-requires c =
     let w = c.write_field-next in
     let fits = leb-true _ _ (sym c.has_room.ensures.value ∙ c.if-not-has_room.false) in
     left c.args.out.now c.args.number _ _ _ _ (numbered _ _ _ _ w.ensures.value w.ensures.out_after)
-    (refused_line c.args.number _ _ c.args.a c.refusal_code.ensures c.in-Refused.is) fits w.auto.out
+    (refused_line c.args.number _ _ c.args.a c.refusal_code.ensures c.in-Err.is) fits w.auto.out
 
-pub returns-in-Accepted : goal.returns-in-Accepted
-returns-in-Accepted c =
+pub returns-in-Ok : goal.returns-in-Ok
+returns-in-Ok c =
     let w = c.write_field-next in
     let here = c.write_accepted in
     let fits = leb-true _ _ (sym c.has_room.ensures.value ∙ c.if-not-has_room.false) in
     let line = whole c.args.out.now c.args.number _ _ _ _ (numbered _ _ _ _ w.ensures.value w.ensures.out_after)
-    (accepted_line c.args.number c.in-Accepted.first c.in-Accepted.second c.args.a c.in-Accepted.is) fits
+    (accepted_line c.args.number c.in-Ok.first c.in-Ok.second c.args.a c.in-Ok.is) fits
     here.new.out here.result here.ensures.out_after here.ensures.value in
     record { value = line.0; out_after = line.1; a_len_bound = c.has_room.ensures.a_len_bound }
 
-pub returns-in-Refused : goal.returns-in-Refused
-returns-in-Refused c =
+pub returns-in-Err : goal.returns-in-Err
+returns-in-Err c =
     let w = c.write_field-next in
     let here = c.write_refused in
     let fits = leb-true _ _ (sym c.has_room.ensures.value ∙ c.if-not-has_room.false) in
     let line = whole c.args.out.now c.args.number _ _ _ _ (numbered _ _ _ _ w.ensures.value w.ensures.out_after)
-    (refused_line c.args.number _ _ c.args.a c.refusal_code.ensures c.in-Refused.is) fits
+    (refused_line c.args.number _ _ c.args.a c.refusal_code.ensures c.in-Err.is) fits
     here.new.out here.result here.ensures.out_after here.ensures.value in
     record { value = line.0; out_after = line.1; a_len_bound = c.has_room.ensures.a_len_bound }

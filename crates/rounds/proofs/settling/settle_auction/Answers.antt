@@ -3,14 +3,13 @@ use Prim.Native.Nat.{ℕ}
 use mathlib.Core.Path.{sym, ap, ◌∙◌}
 use Rattle.units.specs.Counts.{block}
 use Rattle.model.specs.declared.state.Phase.{Phase}
-use Rattle.model.specs.declared.answer.Answer.TheVariants.{Accepted}
-use Rattle.parts.specs.declared.Moved.{Moved}
+use Rattle.parts.specs.After.{Moved}
 use Rattle.rounds.proofs.SettleLaws.{settle_stale, settle_early, settle_done}
 use Rattle.rounds.proofs.settling.settle_auction.Goals as goal
 
 -- accepted at a block, with two numbers and a phase
 moved : ℕ → ℕ → ℕ → Phase → Moved
-moved at a b p = record { answer = Accepted a b; market = record { phase = p }; last = block at }
+moved at a b p = record { answer = Ok (a, b); market = record { phase = p }; last = block at }
 
 pub returns-then-is_before : goal.returns-then-is_before
 returns-then-is_before c =
