@@ -1,7 +1,7 @@
 // Prices and shares of a round: bounds, the trade within, auction prices, quotes, and a ticket's share.
 #![tactic(auto)]
 
-ghost use Rattle.std.specs.Prelude.{◌≡◌, ◌*◌, ◌≤◌, min, eqb, leb, ltb};
+ghost use Rattle.std.specs.Prelude.{◌≡◌, ◌*◌, ◌≤◌, min, leb, ltb};
 ghost use Rattle.units.specs.Ranges.{highest_reference, highest_slack};
 ghost use Rattle.units.specs.Counts.{price, largest, million};
 ghost use Rattle.units.specs.Rounding.{down, up};
