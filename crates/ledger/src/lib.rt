@@ -3,7 +3,7 @@
 
 ghost use Rattle.std.specs.Prelude.{◌≡◌, ◌<◌};
 ghost use Rattle.units.specs.Counts.{amount};
-ghost use Rattle.ledger.specs.Balances.{row_of, with_row, cell_of, fresh_ledger};
+ghost use Rattle.ledger.specs.Balances.{row_of, cell_of, fresh_ledger};
 ghost use Rattle.ledger.specs.Postings.{
   entry_code,
   entry_amount,
@@ -94,6 +94,7 @@ pub fn cell_of(row: Row, token: u32) -> Amount
 }
 
 // Adds to a token of a row.
+#[tactic(auto, unfolding(crate::specs::Postings::credit_row_of, crate::specs::Balances::credited_row, crate::specs::Balances::with_cell, crate::specs::Balances::cell_of))]
 pub fn credit_row(row: &mut Row, token: u32, n: Amount) -> Entry
     ensures { record { entry = result; row = row.new } ≡ credit_row_of row.old token n.0 }
 {
@@ -107,6 +108,7 @@ pub fn credit_row(row: &mut Row, token: u32, n: Amount) -> Entry
 }
 
 // Takes from a token of a row.
+#[tactic(auto, unfolding(crate::specs::Postings::debit_row_of, crate::specs::Balances::debited_row, crate::specs::Balances::with_cell, crate::specs::Balances::cell_of))]
 pub fn debit_row(row: &mut Row, token: u32, n: Amount) -> Entry
     ensures { record { entry = result; row = row.new } ≡ debit_row_of row.old token n.0 }
 {
@@ -133,6 +135,7 @@ pub fn balance(l: Ledger, member: u32, token: u32) -> Entry
 }
 
 // Adds to a balance.
+#[tactic(auto, using(crate::proofs::Rows::credit_by_row), unfolding(crate::specs::Postings::credit_of, crate::specs::Balances::row_of, crate::specs::Balances::with_row))]
 pub fn credit(l: &mut Ledger, member: u32, token: u32, n: Amount) -> Entry
     ensures { record { entry = result; ledger = l.new } ≡ credit_of l.old member token n.0 }
 {
@@ -143,6 +146,7 @@ pub fn credit(l: &mut Ledger, member: u32, token: u32, n: Amount) -> Entry
 }
 
 // Takes from a balance.
+#[tactic(auto, using(crate::proofs::Rows::debit_by_row), unfolding(crate::specs::Postings::debit_of, crate::specs::Balances::row_of, crate::specs::Balances::with_row))]
 pub fn debit(l: &mut Ledger, member: u32, token: u32, n: Amount) -> Entry
     ensures { record { entry = result; ledger = l.new } ≡ debit_of l.old member token n.0 }
 {
