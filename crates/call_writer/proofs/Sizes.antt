@@ -1,4 +1,5 @@
 -- How long a call's line is, by the table of kinds: its number, and for each field a comma and one to ten digits.
+use Rattle.std.specs.Prelude.{Some}
 use mathlib.Core.Path.{◌≡◌, refl, ap, subst}
 use mathlib.Core.Bool.{Bool, true, false, ◌&&◌}
 use mathlib.Core.List.{List, [], ◌∷◌, map}

@@ -1,4 +1,5 @@
 -- The closing of a market in given states, computed; and the statements on it used and refused.
+use Rattle.std.specs.Prelude.{Ok}
 use Prim.Native.Nat.{ℕ, zero, suc, ◌+◌, ◌≤◌}
 use mathlib.Core.Bool.{Bool, true, cond}
 use mathlib.Core.Path.{◌≡◌, ◌∙◌, ap, refl, subst, sym}

@@ -1,4 +1,5 @@
 -- Kinds, fields, codes and answers, computed.
+use Rattle.std.specs.Prelude.{Ok}
 use Prim.Native.Nat.{◌<◌, ◌≤◌}
 use mathlib.Core.Path.{◌≡◌, refl, subst, sym}
 use mathlib.Core.List.{[], ◌∷◌, ◌++◌, map}

@@ -1,4 +1,5 @@
 -- What an accepted settle answers is what history has its round's match and bids take of each side.
+use Rattle.std.specs.Prelude.{Ok}
 use Prim.Native.Nat.{ℕ, ◌<◌, ◌≤◌}
 use mathlib.Core.Path.{◌≡◌, ◌∙◌, ap, subst₂, sym}
 use mathlib.Core.Bool.{Bool, cond, false, true}

@@ -9,7 +9,7 @@ use lib.ListN.{length, get_or-eq_default}
 use borrow.Author.Tests.{eq-eqb, le-ltb, ne_eqb}
 use Rattle.units.proofs.Cases.{false_not_true}
 use Rattle.units.proofs.Decide.{decide_passed}
-use Rattle.std.specs.Prelude.{Option, Some, None}
+use Rattle.std.specs.Prelude.{Option, Some, None, Err}
 use Rattle.ticket_set.specs.TicketSet.{count_of, members_of, next_of, removed}
 use Rattle.ticket_set.proofs.Laws.{count_le, count_none, count_of_empty}
 use Rattle.ticket_set.proofs.Least.{next_nothing, next_of_empty, next_taken}

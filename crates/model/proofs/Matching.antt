@@ -1,4 +1,5 @@
 -- What an accepted match answers, and that nothing else is told.
+use Rattle.std.specs.Prelude.{Ok}
 use Prim.Native.Nat.{◌*◌, ◌+◌, ◌<◌, ◌≤◌, suc, zero, ℕ}
 use mathlib.Core.Path.{◌∙◌, ◌≡◌, ap, ap₂, refl, subst, subst₂, sym}
 use native.Mathlib.Nat.{mul-le-mul_right}

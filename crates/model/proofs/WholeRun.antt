@@ -1,4 +1,5 @@
 -- The whole_run theorem: the invariant holds after every list, and gives the statement.
+use Rattle.std.specs.Prelude.{Ok, Err}
 use Prim.Native.Nat.{◌<◌, ◌≤◌, suc, zero, ℕ}
 use mathlib.Core.Bool.{Bool, cond, false, not, true}
 use mathlib.Core.List.{List, [], ◌∷◌, ◌++◌}

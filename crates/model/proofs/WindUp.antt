@@ -27,7 +27,7 @@ use Rattle.model.specs.declared.state.TicketState.TheVariants.{Entered}
 use Rattle.pricing.specs.Prices.{share_got, share_paid}
 use Rattle.pricing.specs.declared.Totals.{Totals}
 use Rattle.ticket_set.specs.TicketSet.{bit, count_of, members_from, members_of, next_of, removed}
-use Rattle.std.specs.Prelude.{Some}
+use Rattle.std.specs.Prelude.{Some, Ok}
 use Rattle.units.specs.Counts.{largest}
 use Rattle.model.proofs.Inv.{Inv, MarketOk, RoundOk, auction_is, running_is}
 use Rattle.model.proofs.Frames.{inside}

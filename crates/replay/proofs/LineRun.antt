@@ -1,4 +1,5 @@
 -- One line, and the whole_run theorem said of lines: a list of lines runs as the list of its calls.
+use Rattle.std.specs.Prelude.{Err, Some, None, Option}
 use mathlib.Core.Path.{◌≡◌, refl, sym, ap, ◌∙◌, subst, subst₂}
 use mathlib.Core.Bool.{Bool, true, false, cond}
 use mathlib.Core.List.{List, [], ◌∷◌}

@@ -1,4 +1,5 @@
 -- `call_writer::write_call_of_fields` meets its contract: the line of the call that the numbers are, or nothing.
+use Rattle.std.specs.Prelude.{Option}
 use mathlib.Core.Path.{sym, ap, ◌∙◌}
 use lib.ListN.{length}
 use Rattle.decimal.specs.Buffer.{put_from}

@@ -1,4 +1,5 @@
 -- `rounds::settling::settle_auction` meets its contract.
+use Rattle.std.specs.Prelude.{Ok}
 use Prim.Native.Nat.{ℕ}
 use mathlib.Core.Path.{sym, ap, ◌∙◌}
 use Rattle.units.specs.Counts.{block}
