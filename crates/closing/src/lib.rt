@@ -27,6 +27,7 @@ fn marked(market: Market) -> u64
 }
 
 // How many tickets a set has, and the lowest.
+#[tactic(auto, unfolding(crate::specs::Closings::marked_in))]
 fn told(set: u64) -> Answer
     ensures { result ≡ marked_in set }
 {
