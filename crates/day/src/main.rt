@@ -1,179 +1,122 @@
 // The day program: reads call lines from standard input and writes the header and an answer line for each to standard output.
 #![tactic(auto)]
 
-ghost use Rattle.std.specs.Prelude.{◌≡◌, ◌≤◌, length, OnOk};
+ghost use Rattle.std.specs.Prelude.{◌≡◌, OnOk};
 ghost use Rattle.model.specs.Run.{Reachable};
-ghost use Rattle.lines.specs.AnswerText.{longest_answer};
-ghost use Rattle.replay.specs.Pieces.{stream_of, after, ended};
+ghost use Rattle.replay.specs.Pieces.{Stream, stream_of, start, after, ended};
 
 use lines::answer::header;
 use replay::day::{Day, LAST_LINE, fresh_day};
 use std::env::{Env, FillError};
 use std::io::{self, Error, Read, Write};
+use std::marker::Model;
 use std::time::Clock;
 use stream::{feed, finish};
 
-// The day after a piece of the input or after its end, and whether the answers were written.
+// How many bytes of the input, or of answers, are taken at a time.
+const PIECE: usize = 65536;
+
+// What failed where the answers are not whole.
 #[derive(Clone, Copy)]
-struct Step {
+enum Failure {
+    Read(Error),
+    Write(Error),
+}
+
+// The day between two pieces of its input, and room for answers.
+#[derive(Drop)]
+struct Replay {
     day: Day,
-    written: io::Result<()>,
+    out: [u8; PIECE],
 }
 
-// Why reading ended.
-#[derive(Clone, Copy)]
-enum End {
-    Finished,
-    CannotRead(Error),
-    CannotWrite(Error),
+// Contracts see what was fed so far.
+impl Model for Replay {
+    ghost Value = { Stream };
+
+    ghost view = { λ r. stream_of r.day };
+
+    ghost invariant = { λ r. Reachable r.day.exchange };
 }
 
-// The day when reading ended.
-#[derive(Clone, Copy)]
-struct Ended {
-    day: Day,
-    end: End,
-}
-
-// Room for a piece of the input, or for answers.
-fn large_buffer() -> [u8; 65536]
-    ensures { 65536 ≡ length result }
-{
-    [0; 65536]
-}
-
-// Feeds a piece of the input and writes what it answers.
-fn take_piece<W: Write>(
-    clock: &impl Clock,
-    to: &mut W,
-    d: Day,
-    input: &[u8],
-    out: &mut [u8],
-) -> Step
-    requires reachable { Reachable d.exchange }
-    requires longest_answer_in_bounds { longest_answer ≤ length out.old }
-    ensures reachable_2 { Reachable result.day.exchange }
-    ensures day_value { OnOk result.written (stream_of result.day ≡ after (stream_of d) input.now) }
-{
-    let mut day = d;
-    let mut from: usize = 0;
-    while from < input.len() {
-        let fed = feed(day, &input[from..], out);
-        let next = fed.day;
-        day = next;
-        let wrote = fed.wrote;
-        let written = stdio::write_all(clock, to, &out[..wrote]);
-        if written.is_err() {
-            return Step { day, written };
+impl Replay {
+    #[tactic(auto, using(crate::proofs::Piece::start_reachable))]
+    fn new() -> Self
+        ensures { result ≡ start }
+    {
+        Replay {
+            day: fresh_day(),
+            out: [0; PIECE],
         }
-        from = from + fed.used;
     }
-    Step {
-        day,
-        written: Ok(()),
+
+    // Feeds a piece of the input and writes what it answers.
+    fn take_piece<W: Write>(
+        &mut self,
+        clock: &impl Clock,
+        to: &mut W,
+        input: &[u8],
+    ) -> io::Result<()>
+        ensures { OnOk result (self.new ≡ after self.old input.now) }
+    {
+        let mut rest = input;
+        while !rest.is_empty() {
+            let fed = feed(self.day, rest, &mut self.out);
+            self.day = fed.day;
+            stdio::write_all(clock, to, &self.out[..fed.wrote])?;
+            rest = &rest[fed.used..];
+        }
+        Ok(())
+    }
+
+    // Reads to the end of the input, or until the last line is answered. A proved loop has to end, so it has a number of turns that no run
+    // uses up.
+    fn take_all<R: Read, W: Write>(
+        &mut self,
+        clock: &impl Clock,
+        from: &mut R,
+        to: &mut W,
+    ) -> Result<(), Failure> {
+        let mut input = [0; PIECE];
+        'turns: for _ in 0..u64::MAX {
+            if LAST_LINE <= self.day.done {
+                break;
+            }
+            match stdio::read(clock, from, &mut input).map_err(Failure::Read)? {
+                0 => break,
+                count => self
+                    .take_piece(clock, to, &input[..count])
+                    .map_err(Failure::Write)?,
+            }
+        }
+        Ok(())
+    }
+
+    // Answers the last line where it has no byte 10.
+    fn take_last<W: Write>(&mut self, clock: &impl Clock, to: &mut W) -> io::Result<()>
+        ensures { self.new ≡ ended self.old }
+    {
+        let fed = finish(self.day, &mut self.out);
+        self.day = fed.day;
+        stdio::write_all(clock, to, &self.out[..fed.wrote])
     }
 }
 
-// Reads to the end of the input, or until the last line is answered. A proved loop has to end, so it counts its turns down from a number
-// that no run uses up.
-fn take_all<R: Read, W: Write>(
+// Writes the header, and replays the day.
+fn answer_all<R: Read, W: Write>(
     clock: &impl Clock,
     from: &mut R,
     to: &mut W,
-    d: Day,
-    out: &mut [u8],
-) -> Ended
-    requires reachable { Reachable d.exchange }
-    requires longest_answer_in_bounds { longest_answer ≤ length out.old }
-    ensures { Reachable result.day.exchange }
-{
-    let mut input = large_buffer();
-    let mut day = d;
-    let mut turns = u64::MAX;
-    while 0 < turns {
-        turns = turns - 1;
-        if LAST_LINE <= day.done {
-            return Ended {
-                day,
-                end: End::Finished,
-            };
-        }
-        match stdio::read(clock, from, &mut input) {
-            Err(e) => {
-                return Ended {
-                    day,
-                    end: End::CannotRead(e),
-                };
-            }
-            Ok(0) => {
-                return Ended {
-                    day,
-                    end: End::Finished,
-                };
-            }
-            Ok(count) => {
-                let step = take_piece(clock, to, day, &input[..count], out);
-                let next = step.day;
-                day = next;
-                if let Err(e) = step.written {
-                    return Ended {
-                        day,
-                        end: End::CannotWrite(e),
-                    };
-                }
-            }
-        }
-    }
-    Ended {
-        day,
-        end: End::Finished,
-    }
-}
-
-// Answers the last line where it has no byte 10.
-fn take_last<W: Write>(clock: &impl Clock, to: &mut W, d: Day, out: &mut [u8]) -> Step
-    requires reachable { Reachable d.exchange }
-    requires longest_answer_in_bounds { longest_answer ≤ length out.old }
-    ensures { stream_of result.day ≡ ended (stream_of d) }
-{
-    let fed = finish(d, out);
-    let day = fed.day;
-    let wrote = fed.wrote;
-    let written = stdio::write_all(clock, to, &out[..wrote]);
-    Step { day, written }
-}
-
-// Replays the day after its header. Answers how it ended.
-fn replay_day<R: Read, W: Write>(clock: &impl Clock, from: &mut R, to: &mut W) -> End {
-    let mut out = large_buffer();
-    let ended = take_all(clock, from, to, fresh_day(), &mut out);
-    let end = ended.end;
-    match end {
-        End::CannotRead(e) => End::CannotRead(e),
-        End::CannotWrite(e) => End::CannotWrite(e),
-        End::Finished => {
-            let last = take_last(clock, to, ended.day, &mut out);
-            match last.written {
-                Ok(()) => End::Finished,
-                Err(e) => End::CannotWrite(e),
-            }
-        }
-    }
+) -> Result<(), Failure> {
+    stdio::write_all(clock, to, &header()).map_err(Failure::Write)?;
+    let mut replay = Replay::new();
+    replay.take_all(clock, from, to)?;
+    replay.take_last(clock, to).map_err(Failure::Write)
 }
 
 // Whether the program was started with an argument.
 fn has_argument(rt: &impl Env) -> bool {
-    let mut text = [0u8; 1];
-    match rt.arg(1, &mut text) {
-        Ok(_) => true,
-        Err(FillError::TooLong) => true,
-        Err(FillError::NotPresent) => false,
-    }
-}
-
-// Says why a write failed.
-fn cannot_write<W: Write>(told: &mut W, error: Error) {
-    let _ = stdio::fail(told, b"day: cannot write", error);
+    !matches!(rt.arg(1, &mut [0u8; 1]), Err(FillError::NotPresent))
 }
 
 // Arguments, and a read or write that fails, are told on standard error and end the program. The cause may be lost where standard error does not
@@ -181,26 +124,18 @@ fn cannot_write<W: Write>(told: &mut W, error: Error) {
 fn main(rt: HostRuntime) {
     let mut told = rt.stderr();
     if has_argument(&rt) {
-        stdio::write(
+        let _ = stdio::write_all(
             &rt,
             &mut told,
             b"day (Yeldozhym 4.0.0): takes no arguments; usage: day <TRAFFIC >ANSWERS\n",
         );
         return;
     }
-    let mut to = rt.stdout();
-    let end = match stdio::write_all(&rt, &mut to, &header()) {
-        Ok(()) => replay_day(&rt, &mut rt.stdin(), &mut to),
-        Err(e) => End::CannotWrite(e),
-    };
-    match end {
-        End::Finished => {
-            return;
-        }
-        End::CannotRead(e) => {
-            let _ = stdio::fail(&mut told, b"day: cannot read", e);
-        }
-        End::CannotWrite(e) => cannot_write(&mut told, e),
+    if let Err(failure) = answer_all(&rt, &mut rt.stdin(), &mut rt.stdout()) {
+        let _ = match failure {
+            Failure::Read(e) => stdio::fail(&mut told, b"day: cannot read", e),
+            Failure::Write(e) => stdio::fail(&mut told, b"day: cannot write", e),
+        };
+        let _ = stdio::write_all(&rt, &mut told, b"day: the answers are not whole\n");
     }
-    stdio::write(&rt, &mut told, b"day: the answers are not whole\n");
 }

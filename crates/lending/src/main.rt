@@ -431,14 +431,16 @@ fn take_lines<W: Write>(clock: &impl Clock, to: &mut W, input: &[u8]) -> io::Res
 fn main(rt: HostRuntime) {
     let mut told = rt.stderr();
     let mut buf = stdio::input_buffer();
-    let count = stdio::read_input(
+    let Some(count) = stdio::read_input(
         &rt,
         &mut rt.stdin(),
         &mut told,
         &mut buf,
         b"lending: cannot read",
         b"lending: the input has more than 1,048,576 bytes\n",
-    );
+    ) else {
+        return;
+    };
     if let Err(e) = take_lines(&rt, &mut rt.stdout(), &buf[..count]) {
         let _ = stdio::fail(&mut told, b"lending: cannot write", e);
     }

@@ -1,2 +1,3 @@
 pub mod Errors
 pub mod Examples
+pub mod Moved

@@ -1,9 +1,9 @@
 // Reads and writes that try again where the system asks for it. A call that a signal interrupts (EINTR) is tried again at once, one on a
 // descriptor that does not block (EAGAIN) after a wait. Any other error is the caller's. A proved loop has to end, so one that only waits
-// counts its turns down from a number that no run uses up.
+// has a number of turns that no run uses up.
 #![tactic(auto)]
 
-ghost use Rattle.std.specs.Prelude.{◌≡◌, ◌<◌, ◌≤◌, ◌-◌, length, replicate, take, false, IfOk, IfErr, IfNone, IfSome, OnOk};
+ghost use Rattle.std.specs.Prelude.{◌≡◌, ◌<◌, ◌≤◌, length, replicate, take, false, IfOk, IfErr, IfSome, MatchResult, OnOk};
 ghost use Rattle.std.specs.Io.KnownBytes.{Appends, Consumes, IsAtEnd, ReadConsumes, WriteAppends};
 ghost use Rattle.stdio.specs.Failing.{TellsFailure};
 ghost use Rattle.stdio.specs.Passing.{passes, number_of};
@@ -18,42 +18,29 @@ const EINTR: i32 = 4;
 // There is nothing to read, or no room, for now.
 const EAGAIN: i32 = 11;
 
-// How many bytes of a text were written, and why no more of them.
+// A read or write that stopped early: how many bytes were moved before, and why no more of them.
 #[derive(Clone, Copy)]
-pub struct Written {
+pub struct Stopped {
     pub count: usize,
-    pub error: Option<Error>,
+    pub error: Error,
 }
 
-// How many bytes were read, and why a read failed.
-#[derive(Clone, Copy)]
-struct Input {
-    count: usize,
-    error: Option<Error>,
-}
-
-// Whether a read or write that failed with this error is tried again.
+// Whether a read or write that failed with this error is tried again. The error is the system's number and no kind, as in `passes` (specs/Passing.antt).
 pub fn passing(error: i32) -> bool
     ensures { result ≡ passes error }
 {
-    if error == EINTR {
-        return true;
-    }
-    error == EAGAIN
+    matches!(error, EINTR | EAGAIN)
 }
 
 // The system's number of an error: that of its kind where the system did not make it, and 0 where there is none.
 pub fn number_of(error: Error) -> i32
     ensures { result ≡ number_of error }
 {
-    if let Some(number) = error.raw_os_error() {
-        return number;
-    }
-    match error.kind() {
+    error.raw_os_error().unwrap_or(match error.kind() {
         ErrorKind::Interrupted => EINTR,
         ErrorKind::WouldBlock => EAGAIN,
         _ => 0,
-    }
+    })
 }
 
 // Waits a millisecond or so.
@@ -78,87 +65,60 @@ fn gave_up() -> Error
     Error::new(ErrorKind::TimedOut, "it was tried too often")
 }
 
-// The error of a write that took no byte.
-fn none_taken() -> Error
-    ensures { passes (number_of result) ≡ false }
-{
-    Error::new(ErrorKind::WriteZero, "no byte was taken")
-}
-
 // As Read::read: an error, or how many bytes were put at the start of buf, 0 at the end of the input.
 pub fn read<R: Read>(clock: &impl Clock, from: &mut R, buf: &mut [u8]) -> io::Result<usize>
     ensures bound { IfOk result (λ n. n ≤ length buf.old) }
     ensures bytes { ReadConsumes (R.remaining from.old) (R.remaining from.new) result buf.new }
     ensures error { IfErr result (λ e. passes (number_of e) ≡ false) }
 {
-    let mut turns = u64::MAX;
-    while 0 < turns {
-        turns = turns - 1;
+    'turns: for _ in 0..u64::MAX {
         match from.read(buf) {
-            Ok(got) => return Ok(got),
-            Err(e) => {
-                if !again(clock, number_of(e)) {
-                    return Err(e);
-                }
-            }
+            Err(e) if again(clock, number_of(e)) => {}
+            done => return done,
         }
     }
     Err(gave_up())
 }
 
-// As Write::write: an error, or how many of the text's first bytes were taken.
+// As Write::write: an error, or how many of the text's first bytes were taken. The loop is that of read: a function for both would need a trait of
+// the call with two members and two laws, and an impl for each, where the loop is four lines.
 fn write_some<W: Write>(clock: &impl Clock, to: &mut W, text: &[u8]) -> io::Result<usize>
     ensures bound { IfOk result (λ n. n ≤ length text.now) }
     ensures bytes { WriteAppends (W.contents to.old) (W.contents to.new) result text.now }
     ensures error { IfErr result (λ e. passes (number_of e) ≡ false) }
 {
-    let mut turns = u64::MAX;
-    while 0 < turns {
-        turns = turns - 1;
+    'turns: for _ in 0..u64::MAX {
         match to.write(text) {
-            Ok(put) => return Ok(put),
-            Err(e) => {
-                if !again(clock, number_of(e)) {
-                    return Err(e);
-                }
-            }
+            Err(e) if again(clock, number_of(e)) => {}
+            done => return done,
         }
     }
     Err(gave_up())
 }
 
-// Writes the text and answers how many bytes of it were written: all of them, unless a write failed or took none, which the error tells.
+// Writes the whole text, or answers how many of its first bytes were written, and why no more of it: a write failed or took none.
 // An empty text makes no call.
-pub fn write<W: Write>(clock: &impl Clock, to: &mut W, text: &[u8]) -> Written
-    ensures bound { result.count ≤ length text.now }
-    ensures bytes { Appends (W.contents to.old) (W.contents to.new) (take result.count text.now) }
-    ensures whole { IfNone result.error (result.count ≡ length text.now) }
-    ensures error { IfSome result.error (λ e. passes (number_of e) ≡ false) }
+#[tactic(auto, using(crate::proofs::Moved::written))]
+pub fn write<W: Write>(clock: &impl Clock, to: &mut W, text: &[u8]) -> Result<(), Stopped>
+    ensures whole { OnOk result (Appends (W.contents to.old) (W.contents to.new) text.now) }
+    ensures bound { IfErr result (λ s. s.count ≤ length text.now) }
+    ensures bytes { IfErr result (λ s. Appends (W.contents to.old) (W.contents to.new) (take s.count text.now)) }
+    ensures error { IfErr result (λ s. passes (number_of s.error) ≡ false) }
 {
-    let mut done: usize = 0;
-    while done < text.len() {
-        match write_some(clock, to, &text[done..]) {
-            Ok(put) => {
-                if put == 0 {
-                    return Written {
-                        count: done,
-                        error: Some(none_taken()),
-                    };
-                }
-                done = done + put;
+    let mut count = 0;
+    while count < text.len() {
+        match write_some(clock, to, &text[count..]) {
+            Ok(0) => {
+                return Err(Stopped {
+                    count,
+                    error: Error::new(ErrorKind::WriteZero, "no byte was taken"),
+                });
             }
-            Err(e) => {
-                return Written {
-                    count: done,
-                    error: Some(e),
-                };
-            }
+            Ok(put) => count += put,
+            Err(error) => return Err(Stopped { count, error }),
         }
     }
-    Written {
-        count: done,
-        error: None,
-    }
+    Ok(())
 }
 
 // Writes the whole text, or answers why no more of it was written.
@@ -166,37 +126,26 @@ pub fn write_all<W: Write>(clock: &impl Clock, to: &mut W, text: &[u8]) -> io::R
     ensures bytes { OnOk result (Appends (W.contents to.old) (W.contents to.new) text.now) }
     ensures error { IfErr result (λ e. passes (number_of e) ≡ false) }
 {
-    let written = write(clock, to, text);
-    match written.error {
-        Some(e) => Err(e),
-        None => Ok(()),
-    }
+    write(clock, to, text).map_err(|stopped| stopped.error)
 }
 
-// Reads to the end of the input, or until the buffer is full.
-fn read_to_end<R: Read>(clock: &impl Clock, from: &mut R, buf: &mut [u8]) -> Input
-    ensures bound { result.count ≤ length buf.old }
-    ensures bytes { Consumes (R.remaining from.old) (R.remaining from.new) (take result.count buf.new) }
-    ensures end { IfNone result.error (result.count < length buf.old → IsAtEnd (R.remaining from.new)) }
+// Reads to the end of the input, or until the buffer is full. Answers how many bytes it read.
+#[tactic(auto, using(crate::proofs::Moved::read_more))]
+fn read_to_end<R: Read>(clock: &impl Clock, from: &mut R, buf: &mut [u8]) -> Result<usize, Stopped>
+    ensures bound { MatchResult result (λ n. n ≤ length buf.old) (λ s. s.count ≤ length buf.old) }
+    ensures bytes { MatchResult result (λ n. Consumes (R.remaining from.old) (R.remaining from.new) (take n buf.new))
+        (λ s. Consumes (R.remaining from.old) (R.remaining from.new) (take s.count buf.new)) }
+    ensures end { IfOk result (λ n. n < length buf.old → IsAtEnd (R.remaining from.new)) }
 {
-    let mut count: usize = 0;
+    let mut count = 0;
     while count < buf.len() {
         match read(clock, from, &mut buf[count..]) {
-            Ok(more) => {
-                if more == 0 {
-                    break;
-                }
-                count = count + more;
-            }
-            Err(e) => {
-                return Input {
-                    count,
-                    error: Some(e),
-                };
-            }
+            Ok(0) => break,
+            Ok(more) => count += more,
+            Err(error) => return Err(Stopped { count, error }),
         }
     }
-    Input { count, error: None }
+    Ok(count)
 }
 
 // Room for an input of up to 1,048,576 bytes, and one byte more.
@@ -245,7 +194,7 @@ pub fn fail<W: Write>(to: &mut W, what: &[u8], error: Error) -> io::Result<()>
 }
 
 // Reads the whole of an input, which has to be shorter than the buffer, and answers its length. Where a read fails, or the input is too long, it says so
-// on standard error, in the caller's words, and answers 0.
+// on standard error, in the caller's words, and answers none.
 pub fn read_input<R: Read, W: Write>(
     clock: &impl Clock,
     from: &mut R,
@@ -253,19 +202,20 @@ pub fn read_input<R: Read, W: Write>(
     buf: &mut [u8],
     cannot_read: &[u8],
     too_long: &[u8],
-) -> usize
-    ensures bound { result ≤ length buf.old - 1 }
-    ensures whole { 0 < result → IfSome (R.remaining from.old) (λ xs. take result buf.new ≡ xs) }
+) -> Option<usize>
+    ensures bound { IfSome result (λ n. n < length buf.old) }
+    ensures whole { IfSome result (λ n. IfSome (R.remaining from.old) (λ xs. take n buf.new ≡ xs)) }
 {
-    let input = read_to_end(clock, from, buf);
-    if let Some(e) = input.error {
-        // nothing is left to tell a second failure to
-        let _ = fail(told, cannot_read, e);
-        return 0;
+    match read_to_end(clock, from, buf) {
+        Ok(count) if count < buf.len() => Some(count),
+        Ok(_) => {
+            let _ = write(clock, told, too_long);
+            None
+        }
+        Err(stopped) => {
+            // nothing is left to tell a second failure to
+            let _ = fail(told, cannot_read, stopped.error);
+            None
+        }
     }
-    if input.count == buf.len() {
-        write(clock, told, too_long);
-        return 0;
-    }
-    input.count
 }
