@@ -18,7 +18,7 @@ use Rattle.model.specs.declared.answer.Outcome.{Outcome}
 use Rattle.model.specs.declared.orders.OrderFields.{OrderFields}
 use Rattle.model.specs.declared.orders.AnswerPlace.{AnswerPlace}
 use Rattle.model.specs.State.{balance, last_block, ticket, fresh_exchange}
-use Rattle.model.specs.Answers.{code_of, first_of, second_of, answer_line}
+use Rattle.model.specs.Answers.{Answer, code_of, first_of, second_of, answer_line}
 use Rattle.model.specs.Calls.{accept, refuse}
 use Rattle.model.specs.Run.{Request, Engine, Event, at_first, after_call, step_of, request_of, after_calls, answers_to_calls}
 use Rattle.model.specs.OrderLists.{Listed, order_call, orders_of, EmptyList, ListOfOne, CutAlike, ListsCut}
@@ -28,7 +28,6 @@ use Rattle.model.specs.WholeRun.{Singly, no_order_left, next_order, ListsKeep}
 use Rattle.cases.specs.Literals.{order}
 use Rattle.cases.specs.KindCases.{answer_numbers}
 use Rattle.cases.specs.ListCases.{fields, place, held, orders_in, answers_in, list_numbers, funded, nine_orders, refused_orders, nine_listed, refused_listed, balances_in, tickets_in, nine_tickets, unit_orders, full_listed, LengthsRefused, LengthsAccepted, nine_told, ListsSilent, mixed_run, mixed_told, mixed_numbers, mixed_read, summed_up, four_placed, outcome, one_order, one_request, same_again, FixesLists, seven_eight, up_to_one, ListsMet, ListsRefused, SinglyMet, SinglyRefused, one_listed, HousesRefused, EmptyUsed, NothingMet, NothingRefused, OneUsed, CutTold, CutUsed, CutsMet, CutsRefused, ReachUsed, SpelledUsed, SpelledRefused}
-use Rattle.model.proofs.Codes.{refusal_code_lem}
 use Rattle.model.proofs.Computing.{call_computes, history_computes}
 use Rattle.model.proofs.WholeRun.{whole_run}
 
@@ -195,11 +194,11 @@ fixes_lists e x k =
     }
 
 -- a refused list is not accepted, and an accepted one not refused
-not_accepted : {a b : ℕ} → Err BadOrderList ≡ Ok (a, b) → ⊥
-not_accepted e = let z : ◌≡◌ {A = ℕ} 22 0 = ap code_of e in omega (arith, z)
+not_accepted : {a b : ℕ} → ◌≡◌ {A = Answer} (Err BadOrderList) (Ok (a, b)) → ⊥
+not_accepted e = cc
 
-not_refused : {r : Refusal} → Ok (0, 0) ≡ Err r → ⊥
-not_refused {r} e = omega (arith, refusal_code_lem r, ap code_of e)
+not_refused : {r : Refusal} → ◌≡◌ {A = Answer} (Ok (0, 0)) (Err r) → ⊥
+not_refused e = cc
 
 -- what a list of none and of one answers
 up_to_one_leaves : (x : Exchange) (fs : List OrderFields) (ps : List AnswerPlace) (why : Refusal) → (up_to_one x fs ps).answer ≡ Err why
