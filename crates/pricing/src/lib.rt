@@ -48,6 +48,22 @@ pub struct Trade {
     pub quote: Amount,
 }
 
+impl Trade {
+    // Whether its quote is above a price for its base.
+    fn is_above(self, p: Price) -> bool
+        ensures { result ≡ ltb (p.0 * self.base.0) (self.quote.0 * million) }
+    {
+        product(p.0, self.base.0) < product(self.quote.0, MILLION)
+    }
+
+    // Whether its quote is at a price for its base or above it.
+    fn reaches(self, p: Price) -> bool
+        ensures { result ≡ leb (p.0 * self.base.0) (self.quote.0 * million) }
+    {
+        product(p.0, self.base.0) <= product(self.quote.0, MILLION)
+    }
+}
+
 // What one ticket pays and gets.
 #[derive(Clone, Copy)]
 pub struct Share {
@@ -77,7 +93,8 @@ impl Quote {
     }
 }
 
-// The functions below are public for the crates above. They ask what an open round's numbers keep.
+// The functions below are public for the crates above. They ask what an open round's numbers keep, and take hi and lo as a round holds
+// them: two prices.
 
 // A round's high bound, from the reference price and the slack in millionths.
 #[tactic(auto, using(crate::proofs::Prices::high_le), unfolding(crate::specs::Prices::high_bound))]
@@ -97,7 +114,7 @@ pub fn low_bound(reference: Price, slack: u32) -> Price
     Price(part_up(reference.0, MILLION - slack, MILLION) as u32)
 }
 
-// The quote for n base at a price, rounded down.
+// The quote for n base at a price, rounded down. Each rounding has its own function, as in units.
 fn quote_down(n: Amount, p: Price) -> Quote
     ensures { result.0 ≡ down (n.0 * p.0) million }
 {
@@ -120,26 +137,12 @@ fn base_within(q: Amount, p: Price, most: Amount) -> Amount
     Amount(fetched.min(u64::from(most.0)) as u32)
 }
 
-// Whether quote for base is above a price.
-fn dearer(quote: Amount, base: Amount, p: Price) -> bool
-    ensures { result ≡ ltb (p.0 * base.0) (quote.0 * million) }
-{
-    product(p.0, base.0) < product(quote.0, MILLION)
-}
-
-// Whether quote for base is at a price or above it.
-fn reaches(quote: Amount, base: Amount, p: Price) -> bool
-    ensures { result ≡ leb (p.0 * base.0) (quote.0 * million) }
-{
-    product(p.0, base.0) <= product(quote.0, MILLION)
-}
-
 // What is traded for the quote rounded down: nothing where it is 0 or below lo.
-fn lower_trade(base: Amount, lower: Amount, lo: Price) -> Trade
-    ensures { result ≡ lower_trade lo.0 base.0 lower.0 }
+fn lower_trade(lower: Trade, lo: Price) -> Trade
+    ensures { result ≡ lower_trade lo.0 lower.base.0 lower.quote.0 }
 {
-    if Amount(1) <= lower && reaches(lower, base, lo) {
-        Trade { base, quote: lower }
+    if Amount(1) <= lower.quote && lower.reaches(lo) {
+        lower
     } else {
         Trade {
             base: Amount(0),
@@ -155,12 +158,18 @@ pub fn trade_within(q: Amount, s: Amount, reference: Price, hi: Price, lo: Price
     ensures { result ≡ trade_within q.0 s.0 reference.0 hi.0 lo.0 }
 {
     let base = base_within(q, reference, s);
-    let quote = quote_up(base, reference).to_amount();
-    if dearer(quote, base, hi) {
-        let lower = quote_down(base, reference).to_amount();
-        lower_trade(base, lower, lo)
+    let upper = Trade {
+        base,
+        quote: quote_up(base, reference).to_amount(),
+    };
+    if upper.is_above(hi) {
+        let lower = Trade {
+            base,
+            quote: quote_down(base, reference).to_amount(),
+        };
+        lower_trade(lower, lo)
     } else {
-        Trade { base, quote }
+        upper
     }
 }
 

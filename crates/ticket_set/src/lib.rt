@@ -1,4 +1,5 @@
-// A set of the tickets 0 to 63 in a u64: a round's marks, one bit for each ticket.
+// A set of the tickets 0 to 63 in a u64: a round's marks, one bit for each ticket. It has no type of its own: a round's state is
+// defined with the number.
 #![tactic(auto)]
 
 ghost use Rattle.std.specs.Prelude.{◌≡◌, ◌<◌};

@@ -5,11 +5,15 @@ use Rattle.units.specs.Rounding.{down, up}
 use Rattle.units.specs.Sums.{sum_to, sum_over, only}
 use Rattle.units.specs.Decimal.{digits}
 use Rattle.units.specs.Worked.{given, by_hand}
-use Rattle.units.specs.Examples.{numbers, roundings, Meanings, RoundingsUsed, reasons, sums, texts}
+use Rattle.units.specs.Examples.{numbers, checked, roundings, Meanings, RoundingsUsed, reasons, sums, texts}
 
 pub numbers_hold : given numbers ≡ by_hand numbers
 unfolding numbers
 numbers_hold = refl
+
+pub checked_hold : given checked ≡ by_hand checked
+unfolding checked
+checked_hold = refl
 
 pub roundings_hold : given roundings ≡ by_hand roundings
 unfolding roundings down up

@@ -1,7 +1,7 @@
 -- `down` and `up` round as their meanings say, and no other number does; what each gives in products.
 use mathlib.Core.Path.{◌≡◌, sym, ◌∙◌}
-use Prim.Native.Nat.{ℕ, zero, suc, ◌+◌, ◌-◌, ◌*◌, ◌/◌, ◌%◌, ◌^◌, ◌≤◌, ◌<◌, min}
-use native.Mathlib.Nat.{div-add-mod, mod-lt, lt_of_mul-lt-mul_left, mul-le-mul_left, mul-le-mul, le_antisymm}
+use Prim.Native.Nat.{ℕ, zero, suc, ◌+◌, ◌-◌, ◌*◌, ◌/◌, ◌%◌, ◌≤◌, ◌<◌, min}
+use native.Mathlib.Nat.{div-add-mod, mod-lt, lt_of_mul-lt-mul_left, mul-le-mul_left, le_antisymm}
 use native.Mathlib.Omega.{arith}
 use Rattle.units.specs.Rounding.{DownAlone, down, up, RoundedDown, RoundedUp, RoundsDown, RoundsUp, UpAlone}
 
@@ -77,11 +77,6 @@ part_up_le d k l h g = up_le (d * k) l d h (omega (arith, mul-le-mul_left d g))
 
 pub whole_down : (d l : ℕ) → 0 < l → down (d * l) l ≡ d
 whole_down d l h = sym (down_only (d * l) l d h (record { within = omega arith; close = omega arith }))
-
--- a product of two u32 fits a u64
-pub product_fits : {a b : ℕ} → a < 2 ^ 32 → b < 2 ^ 32 → a * b < 2 ^ 64
-product_fits {a} {b} h g =
-    let s : a * b ≤ (2 ^ 32 - 1) * (2 ^ 32 - 1) = mul-le-mul {n₂ = 2 ^ 32 - 1} {m₂ = 2 ^ 32 - 1} (omega arith) (omega arith) in omega arith
 
 -- in products: c is a / b rounded up where b × c is at least a and below a + b
 pub up_only_by : (a b c : ℕ) → a ≤ b * c → b * c < a + b → c ≡ up a b

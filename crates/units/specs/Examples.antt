@@ -1,6 +1,7 @@
--- Cases worked by hand: the numbers that document 01 names, both roundings, the first reason of a list, sums and decimal text.
-use Rattle.std.specs.Prelude.{ℕ, ◌*◌, ◌^◌, ◌≤◌, Bool, true, false, ◌≡◌, List, [], ◌∷◌}
-use Rattle.units.specs.Counts.{amount, price, block, largest, million}
+-- Cases worked by hand: the numbers that document 01 names, sums and rests of amounts, both roundings, the first reason of a list, sums and decimal text.
+use Rattle.std.specs.Prelude.{ℕ, ◌*◌, ◌^◌, ◌≤◌, Bool, true, false, ◌≡◌, List, [], ◌∷◌, Option, None, Some}
+use Rattle.units.specs.declared.Amount.{Amount}
+use Rattle.units.specs.Counts.{amount, price, block, largest, sum_if_fits, rest_if_within, million}
 use Rattle.units.specs.Ranges.{
   last_member,
   last_token,
@@ -46,6 +47,20 @@ numbers =
     ∷ ((amount 7).0, 7)
     ∷ ((price 8).0, 8)
     ∷ ((block 9).0, 9)
+    ∷ []
+
+-- ---- the sum of two amounts, and one less another, where there is one
+
+unfoldable pub checked : List (Option Amount × Option Amount)
+checked =
+    (sum_if_fits 0 0, Some (amount 0))
+    ∷ (sum_if_fits 5 7, Some (amount 12))
+    -- the largest number, and 1 more
+    ∷ (sum_if_fits 4294967290 5, Some (amount 4294967295))
+    ∷ (sum_if_fits 4294967290 6, None)
+    ∷ (rest_if_within 7 5, Some (amount 2))
+    ∷ (rest_if_within 7 7, Some (amount 0))
+    ∷ (rest_if_within 7 8, None)
     ∷ []
 
 -- ---- a / b rounded down, and rounded up

@@ -10,7 +10,7 @@ ghost use Rattle.units.specs.Rounding.{down, up};
 pub struct Amount(pub u32);
 
 impl Amount {
-    // The sum of two amounts, where it is one.
+    // The sum of two amounts, where it is one. Its callers know that it is, so it cannot fail.
     pub fn plus(self, b: Amount) -> Amount
         requires { self.0 + b.0 ≤ largest }
         ensures { result.0 ≡ self.0 + b.0 }
@@ -18,7 +18,7 @@ impl Amount {
         Amount(self.0 + b.0)
     }
 
-    // An amount less another that is within it.
+    // An amount less another that is within it. It cannot fail either.
     pub fn minus(self, b: Amount) -> Amount
         requires { b.0 ≤ self.0 }
         ensures { result.0 ≡ self.0 - b.0 }
@@ -58,7 +58,7 @@ impl Block {
         self.0 - b.0
     }
 
-    // Whether it is fewer than n blocks since another.
+    // Whether it is fewer than n blocks since another. The sum can pass the largest number.
     pub fn fewer_since(self, b: Block, n: u32) -> bool
         ensures { result ≡ ltb self.0 (b.0 + n) }
     {
@@ -73,7 +73,8 @@ impl Block {
     }
 }
 
-// The functions below are public for the crates above: their divisor is at least 1 there.
+// The functions below are public for the crates above: their divisor is at least 1 there. Each rounding has its own functions: one with
+// the rounding as a parameter is no plainer.
 
 // a / b, rounded down.
 #[tactic(auto, unfolding(crate::specs::Rounding::down))]
