@@ -19,6 +19,7 @@ use units::{Amount, Block, Price};
 const BLOCKS_TO_MATCH: u32 = 4;
 
 // 5 Open: a round with its terms, and nothing entered.
+#[tactic(auto, unfolding(parts::specs::Parts::open_on))]
 pub fn open(
     market: &mut Market,
     last: &mut Block,
@@ -82,6 +83,7 @@ fn matched_round(r: Round, block: Block, t: Trade) -> Round
 }
 
 // 7 Match.
+#[tactic(auto, unfolding(parts::specs::Parts::match_on))]
 pub fn match_round(market: &mut Market, last: &mut Block, block: Block) -> Answer
     requires { MatchBounds market.old }
     ensures { record { answer = result; market = market.new; last = last.new } ≡ match_on market.old last.old block.0 }

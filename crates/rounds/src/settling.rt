@@ -41,6 +41,7 @@ fn settled_phase(r: Round) -> Phase
 }
 
 // 9 Settle: a round's auction ends, and its market pays or is closed.
+#[tactic(auto, unfolding(parts::specs::Parts::settle_on))]
 pub fn settle(market: &mut Market, last: &mut Block, block: Block) -> Answer
     ensures { record { answer = result; market = market.new; last = last.new } ≡ settle_on market.old last.old block.0 }
 {
