@@ -47,6 +47,7 @@ pub enum Fault {
 pub type Entry = Result<Amount, Fault>;
 
 // All balances 0.
+#[tactic(auto, unfolding(crate::specs::Balances::fresh_ledger))]
 pub fn fresh() -> Ledger
     ensures { result ≡ fresh_ledger }
 {
@@ -76,21 +77,21 @@ pub fn entry_amount(e: Entry) -> u32
 }
 
 // The row of a member. Public for the crates above, which ask for a member below 16.
+#[tactic(auto, unfolding(crate::specs::Balances::row_of))]
 pub fn row_of(l: Ledger, member: u32) -> Row
     requires { member < 16 }
     ensures { result ≡ row_of l member }
 {
-    let m = member as usize;
-    l.rows[m]
+    l.rows[member as usize]
 }
 
 // A row's amount of a token. Public for the crates above, which ask for a token below 4.
+#[tactic(auto, unfolding(crate::specs::Balances::cell_of))]
 pub fn cell_of(row: Row, token: u32) -> Amount
     requires { token < 4 }
     ensures { result ≡ amount (cell_of row token) }
 {
-    let c = token as usize;
-    row.cells[c]
+    row.cells[token as usize]
 }
 
 // Adds to a token of a row.
@@ -122,6 +123,7 @@ pub fn debit_row(row: &mut Row, token: u32, n: Amount) -> Entry
 }
 
 // A member's balance of a token.
+#[tactic(auto, unfolding(crate::specs::Postings::balance_of, crate::specs::Balances::balance_in))]
 pub fn balance(l: Ledger, member: u32, token: u32) -> Entry
     ensures { result ≡ balance_of l member token }
 {
