@@ -431,7 +431,7 @@ fn take_lines<W: Write>(clock: &impl Clock, to: &mut W, input: &[u8]) -> io::Res
 fn main(rt: HostRuntime) {
     let mut told = rt.stderr();
     let mut buf = stdio::input_buffer();
-    let Some(count) = stdio::read_input(
+    let Some(input) = stdio::read_input(
         &rt,
         &mut rt.stdin(),
         &mut told,
@@ -441,7 +441,7 @@ fn main(rt: HostRuntime) {
     ) else {
         return;
     };
-    if let Err(e) = take_lines(&rt, &mut rt.stdout(), &buf[..count]) {
+    if let Err(e) = take_lines(&rt, &mut rt.stdout(), input) {
         let _ = stdio::fail(&mut told, b"lending: cannot write", e);
     }
 }

@@ -1,11 +1,16 @@
 -- What a line makes of the books, a ledger and one row apart from it, and what it answers: by how many numbers it has, and the first of them.
-use Rattle.std.specs.Prelude.{ℕ, cond, List, [], ◌∷◌, ◌++◌, eqb, Option}
+use Rattle.std.specs.Prelude.{ℕ, cond, List, [], ◌∷◌, ◌++◌, eqb, Some, None, Option as Answer}
 use Rattle.std.proofs.Math.Option.{Option, some, none}
 use Rattle.units.specs.Decimal.{digits}
 use Rattle.ledger.specs.Balances.{row_of, fresh_ledger}
 use Rattle.ledger.specs.Postings.{RowPosting, Posting, Entry, entry_code, entry_amount, balance_of, credit_of, debit_of, credit_row_of, debit_row_of}
 use Rattle.postings.specs.declared.Books.{Books}
-use Rattle.postings.specs.declared.Posted.{Posted}
+
+-- what a line answers, and the books after it
+pub record Posted : Type 0 where
+  pub code : ℕ
+  pub amount : ℕ
+  pub books : Books
 
 -- "A fresh house is all zero", and the row as member 0 has it
 unfoldable pub fresh_books : Books
@@ -51,6 +56,18 @@ posted_of b (some (kind ∷ x ∷ [])) = no_line b
 posted_of b (some (kind ∷ x ∷ y ∷ [])) = two_of b kind x y
 posted_of b (some (kind ∷ x ∷ y ∷ z ∷ [])) = three_of b kind x y z
 posted_of b (some (kind ∷ x ∷ y ∷ z ∷ w ∷ ns)) = no_line b
+
+-- the numbers of an answer, none where the line is none of the six
+abbrev pub code_of : Answer Entry → ℕ
+code_of None = 20
+code_of (Some e) = entry_code e
+
+abbrev pub amount_of : Answer Entry → ℕ
+amount_of None = 0
+amount_of (Some e) = entry_amount e
+
+abbrev pub answered : Answer Entry → Books → Posted
+answered posted b = record { code = code_of posted; amount = amount_of posted; books = b }
 
 -- number, code and amount, parted by commas, and byte 10
 abbrev pub posted_text : ℕ → ℕ → ℕ → List ℕ

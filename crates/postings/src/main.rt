@@ -11,27 +11,17 @@
 // than 80 bytes or no numbers, answers 20 and 0. A refusal leaves the books.
 #![tactic(auto)]
 
-ghost use Rattle.std.specs.Prelude.{◌≡◌, true, ◌≤◌, ◌<◌, length};
+ghost use Rattle.std.specs.Prelude.{◌≡◌, ◌≤◌, length};
+ghost use Rattle.std.proofs.Math.Option.{some};
 ghost use Rattle.decimal.specs.Buffer.{put_at};
 ghost use Rattle.fields.specs.Grammar.{line_numbers};
-ghost use Rattle.postings.specs.Lines.{
-  fresh_books,
-  told,
-  no_line,
-  on_ledger,
-  on_row,
-  alone_of,
-  two_of,
-  three_of,
-  posted_of,
-  posted_text,
-};
+ghost use Rattle.postings.specs.Lines.{fresh_books, answered, posted_of, code_of, amount_of, posted_text};
 
 use decimal::write_field;
 use fields::read_fields;
 use ledger::{
-    Entry, Ledger, Posting, Row, RowPosting, balance, credit, credit_row, debit, debit_row,
-    entry_amount, entry_code, fresh, row_of,
+    Entry, Ledger, Row, balance, credit, credit_row, debit, debit_row, entry_amount, entry_code,
+    fresh, row_of,
 };
 use std::io::{self, Write};
 use std::time::Clock;
@@ -40,6 +30,9 @@ use units::Amount;
 // The most bytes of a line before its byte 10.
 const LONGEST_LINE: usize = 80;
 
+// The longest answer: three numbers of ten digits, two commas and byte 10.
+const LONGEST_ANSWER: usize = 33;
+
 // A ledger, and one row apart from it.
 #[derive(Clone, Copy)]
 struct Books {
@@ -47,153 +40,79 @@ struct Books {
     row: Row,
 }
 
-// What a line answers, and the books after it.
-#[derive(Clone, Copy)]
-struct Posted {
-    code: u32,
-    amount: u32,
-    books: Books,
-}
+impl Books {
+    // All balances 0.
+    #[tactic(auto, unfolding(crate::specs::Lines::fresh_books))]
+    fn fresh() -> Self
+        ensures { result ≡ fresh_books }
+    {
+        let ledger = fresh();
+        Books {
+            ledger,
+            row: row_of(ledger, 0),
+        }
+    }
 
-// ---- one line
+    // The numbers of a line. None where they are none of the six.
+    #[tactic(auto, unfolding(crate::specs::Lines::alone_of, crate::specs::Lines::two_of, crate::specs::Lines::three_of))]
+    fn post_numbers(&mut self, numbers: &[u32]) -> Option<Entry>
+        ensures { answered result self.new ≡ posted_of self.old (some numbers.now) }
+    {
+        match numbers {
+            [1, member, token, amount] => {
+                Some(credit(&mut self.ledger, *member, *token, Amount(*amount)))
+            }
+            [2, member, token, amount] => {
+                Some(debit(&mut self.ledger, *member, *token, Amount(*amount)))
+            }
+            [3, member, token] => Some(balance(self.ledger, *member, *token)),
+            [4, token, amount] => Some(credit_row(&mut self.row, *token, Amount(*amount))),
+            [5, token, amount] => Some(debit_row(&mut self.row, *token, Amount(*amount))),
+            [6] => {
+                *self = Books::fresh();
+                Some(Ok(Amount(0)))
+            }
+            _ => None,
+        }
+    }
 
-// All balances 0.
-fn fresh_books() -> Books
-    ensures { result ≡ fresh_books }
-{
-    let ledger = fresh();
-    let row = row_of(ledger, 0);
-    Books { ledger, row }
-}
-
-// The numbers of an entry.
-fn tell(e: Entry, books: Books) -> Posted
-    ensures { result ≡ told e books }
-{
-    let code = entry_code(e);
-    let amount = entry_amount(e);
-    Posted {
-        code,
-        amount,
-        books,
+    // A line, without its byte 10. None where it is none of the six.
+    #[tactic(auto, using(crate::proofs::Laws::posted_long, crate::proofs::Laws::posted_stops, crate::proofs::Laws::posted_read, crate::proofs::Laws::count_most))]
+    fn post_line(&mut self, line: &[u8]) -> Option<Entry>
+        ensures { answered result self.new ≡ posted_of self.old (line_numbers line.now) }
+    {
+        if LONGEST_LINE < line.len() {
+            return None;
+        }
+        let f = read_fields(line, 0);
+        if f.stop < line.len() {
+            return None;
+        }
+        self.post_numbers(&f.values[..f.count])
     }
-}
-
-// A line that is none of the six.
-fn no_line(books: Books) -> Posted
-    ensures { result ≡ no_line books }
-{
-    Posted {
-        code: 20,
-        amount: 0,
-        books,
-    }
-}
-
-// The books after a call on the ledger.
-fn on_ledger(b: Books, p: Posting) -> Posted
-    ensures { result ≡ on_ledger b p }
-{
-    let entry = p.entry;
-    let ledger = p.ledger;
-    let row = b.row;
-    tell(entry, Books { ledger, row })
-}
-
-// The books after a call on the row.
-fn on_row(b: Books, p: RowPosting) -> Posted
-    ensures { result ≡ on_row b p }
-{
-    let entry = p.entry;
-    let row = p.row;
-    let ledger = b.ledger;
-    tell(entry, Books { ledger, row })
-}
-
-// A kind alone.
-fn alone(b: Books, kind: u32) -> Posted
-    ensures { result ≡ alone_of b kind }
-{
-    if kind == 6 {
-        let books = fresh_books();
-        return Posted {
-            code: 0,
-            amount: 0,
-            books,
-        };
-    }
-    no_line(b)
-}
-
-// A kind and two numbers.
-fn with_two(b: Books, kind: u32, first: u32, second: u32) -> Posted
-    ensures { result ≡ two_of b kind first second }
-{
-    let l = b.ledger;
-    let row = b.row;
-    if kind == 3 {
-        return tell(balance(l, first, second), b);
-    }
-    if kind == 4 {
-        return on_row(b, credit_row(row, first, Amount(second)));
-    }
-    if kind == 5 {
-        return on_row(b, debit_row(row, first, Amount(second)));
-    }
-    no_line(b)
-}
-
-// A kind and three numbers.
-fn with_three(b: Books, kind: u32, member: u32, token: u32, amount: u32) -> Posted
-    ensures { result ≡ three_of b kind member token amount }
-{
-    let l = b.ledger;
-    if kind == 1 {
-        return on_ledger(b, credit(l, member, token, Amount(amount)));
-    }
-    if kind == 2 {
-        return on_ledger(b, debit(l, member, token, Amount(amount)));
-    }
-    no_line(b)
-}
-
-// A line, without its byte 10.
-fn post_line(b: Books, line: &[u8]) -> Posted
-    ensures { result ≡ posted_of b (line_numbers line.now) }
-{
-    if LONGEST_LINE < line.len() {
-        return no_line(b);
-    }
-    let f = read_fields(line, 0);
-    if f.stop < line.len() {
-        return no_line(b);
-    }
-    let v = f.values;
-    if f.count == 1 {
-        return alone(b, v[0]);
-    }
-    if f.count == 3 {
-        return with_two(b, v[0], v[1], v[2]);
-    }
-    if f.count == 4 {
-        return with_three(b, v[0], v[1], v[2], v[3]);
-    }
-    no_line(b)
 }
 
 // ---- answers printed
 
-// Room for the longest answer: three numbers of ten digits, two commas and byte 10.
-fn answer_buffer() -> [u8; 33]
-    ensures { 33 ≡ length result }
+// The number of what a line answers: 20 where it is none of the six.
+fn code_of(posted: Option<Entry>) -> u32
+    ensures { result ≡ code_of posted }
 {
-    [0; 33]
+    posted.map_or(20, entry_code)
+}
+
+// The balance that a line answers, 0 where there is none.
+fn amount_of(posted: Option<Entry>) -> u32
+    ensures { result ≡ amount_of posted }
+{
+    posted.map_or(0, entry_amount)
 }
 
 // Writes a line's answer at the start of out and answers its length.
-fn write_posted(out: &mut [u8], number: u32, code: u32, amount: u32) -> usize
-    requires { 33 ≤ length out.old }
+#[tactic(auto, using(decimal::proofs::Digits::digits_bound))]
+fn write_posted(out: &mut [u8; LONGEST_ANSWER], number: u32, code: u32, amount: u32) -> usize
     ensures value { result ≡ length (posted_text number code amount) }
+    ensures bound { result ≤ 33 }
     ensures out_after { out.new ≡ put_at out.old 0 (posted_text number code amount) }
 {
     let after_number = write_field(out, 0, number, b',');
@@ -201,50 +120,16 @@ fn write_posted(out: &mut [u8], number: u32, code: u32, amount: u32) -> usize
     write_field(out, after_code, amount, b'\n')
 }
 
-// Answers whether it was written.
-fn print_posted<W: Write>(
-    clock: &impl Clock,
-    to: &mut W,
-    number: u32,
-    p: Posted,
-) -> io::Result<()> {
-    let mut out = answer_buffer();
-    let used = write_posted(&mut out, number, p.code, p.amount);
-    stdio::write_all(clock, to, &out[..used])
-}
-
 // ---- the whole
 
-// Whether a line goes on at a place: it ends at byte 10, and at the input's end.
-fn goes_on(input: &[u8], at: usize) -> bool
-    ensures { result ≡ true → at < length input.now }
-{
-    if at < input.len() {
-        return input[at] != b'\n';
-    }
-    false
-}
-
-// The lines of the input, numbered from 1. Answers whether all answers were written.
-fn post_lines<W: Write>(clock: &impl Clock, to: &mut W, input: &[u8]) -> io::Result<()>
-    requires { length input.now ≤ 1048576 }
-{
-    let mut books = fresh_books();
-    let mut number: u32 = 0;
-    let mut from: usize = 0;
-    let mut i: usize = 0;
-    while from < input.len() {
-        if goes_on(input, i) {
-            i = i + 1;
-            continue;
-        }
-        let p = post_line(books, &input[from..i]);
-        number = number + 1;
-        print_posted(clock, to, number, p)?;
-        let next = p.books;
-        books = next;
-        i = i + 1;
-        from = i;
+// The lines of the input, numbered from 1, the last one also where it has no byte 10. Answers whether all answers were written.
+fn post_lines<W: Write>(clock: &impl Clock, to: &mut W, input: &[u8]) -> io::Result<()> {
+    let mut books = Books::fresh();
+    let mut out = [0; LONGEST_ANSWER];
+    for (number, piece) in (1..=u32::MAX).zip(input.split_inclusive(|b| *b == b'\n')) {
+        let posted = books.post_line(piece.strip_suffix(b"\n").unwrap_or(piece));
+        let used = write_posted(&mut out, number, code_of(posted), amount_of(posted));
+        stdio::write_all(clock, to, &out[..used])?;
     }
     Ok(())
 }
@@ -253,7 +138,7 @@ fn post_lines<W: Write>(clock: &impl Clock, to: &mut W, input: &[u8]) -> io::Res
 fn main(rt: HostRuntime) {
     let mut told = rt.stderr();
     let mut buf = stdio::input_buffer();
-    let Some(count) = stdio::read_input(
+    let Some(input) = stdio::read_input(
         &rt,
         &mut rt.stdin(),
         &mut told,
@@ -263,7 +148,7 @@ fn main(rt: HostRuntime) {
     ) else {
         return;
     };
-    if let Err(e) = post_lines(&rt, &mut rt.stdout(), &buf[..count]) {
+    if let Err(e) = post_lines(&rt, &mut rt.stdout(), input) {
         let _ = stdio::fail(&mut told, b"postings: cannot write", e);
     }
 }

@@ -193,21 +193,21 @@ pub fn fail<W: Write>(to: &mut W, what: &[u8], error: Error) -> io::Result<()>
     ended
 }
 
-// Reads the whole of an input, which has to be shorter than the buffer, and answers its length. Where a read fails, or the input is too long, it says so
-// on standard error, in the caller's words, and answers none.
-pub fn read_input<R: Read, W: Write>(
+// Reads the whole of an input, which has to be shorter than the buffer, and answers the part of the buffer that it fills. Where a read fails, or the
+// input is too long, it says so on standard error, in the caller's words, and answers none.
+pub fn read_input<'a, R: Read, W: Write>(
     clock: &impl Clock,
     from: &mut R,
     told: &mut W,
-    buf: &mut [u8],
+    buf: &'a mut [u8],
     cannot_read: &[u8],
     too_long: &[u8],
-) -> Option<usize>
-    ensures bound { IfSome result (λ n. n < length buf.old) }
-    ensures whole { IfSome result (λ n. IfSome (R.remaining from.old) (λ xs. take n buf.new ≡ xs)) }
+) -> Option<&'a [u8]>
+    ensures bound { IfSome result (λ input. length input.now < length buf.old) }
+    ensures whole { IfSome result (λ input. IfSome (R.remaining from.old) (λ xs. input.now ≡ xs)) }
 {
     match read_to_end(clock, from, buf) {
-        Ok(count) if count < buf.len() => Some(count),
+        Ok(count) if count < buf.len() => Some(&buf[..count]),
         Ok(_) => {
             let _ = write(clock, told, too_long);
             None

@@ -7,26 +7,6 @@ use Rattle.decimal.proofs.Put.{Run, run_one, run_more}
 use Rattle.postings.specs.Lines.{posted_text}
 use Rattle.postings.proofs.write_posted.Goals as goal
 
-pub write_field-after_number-requires : goal.write_field-after_number-requires
-write_field-after_number-requires c = omega (arith, digits_bound c.args.number (omega arith))
-
-pub write_field-after_code-requires : goal.write_field-after_code-requires
-write_field-after_code-requires c =
-    omega (arith, c.write_field-after_number.ensures.value, c.write_field-after_number.auto.out, digits_bound c.args.number (omega arith), digits_bound c.args.code (omega arith))
-
-pub write_field-requires : goal.write_field-requires
-write_field-requires c =
-    omega (
-      arith,
-      c.write_field-after_number.ensures.value,
-      c.write_field-after_number.auto.out,
-      c.write_field-after_code.ensures.value,
-      c.write_field-after_code.auto.out,
-      digits_bound c.args.number (omega arith),
-      digits_bound c.args.code (omega arith),
-      digits_bound c.args.amount (omega arith),
-    )
-
 pub returns-clause-out_after : goal.returns-clause-out_after
 returns-clause-out_after c =
     let xs = c.args.out.now in
