@@ -13,29 +13,28 @@ use sides::offered_token;
 use units::Amount;
 
 // 1 Deposit into a member's row and a token's supply.
+#[tactic(auto, unfolding(parts::specs::Parts::deposit_on, ledger::specs::Postings::credit_row_of))]
 pub fn deposit(row: &mut Row, supply: &mut Amount, token: u32, n: Amount) -> Answer
     requires { BankBounds row.old supply.old token }
     ensures { record { answer = result; row = row.new; supply = supply.new } ≡ deposit_on row.old supply.old token n.0 }
 {
-    let total = supply.checked_add(n).ok_or(Refusal::SupplyExceeded)?;
-    let entry = credit_row(row, token, n);
-    *supply = total;
-    Ok((entry_amount(entry), 0))
+    *supply = supply.checked_add(n).ok_or(Refusal::SupplyExceeded)?;
+    Ok((entry_amount(credit_row(row, token, n)), 0))
 }
 
 // 2 Withdraw from a member's row and a token's supply.
+#[tactic(auto, unfolding(parts::specs::Parts::withdraw_on, ledger::specs::Postings::debit_row_of))]
 pub fn withdraw(row: &mut Row, supply: &mut Amount, token: u32, n: Amount) -> Answer
     requires { BankBounds row.old supply.old token }
     ensures { record { answer = result; row = row.new; supply = supply.new } ≡ withdraw_on row.old supply.old token n.0 }
 {
-    let Ok(rest) = debit_row(row, token, n) else {
-        return Err(Refusal::InsufficientBalance);
-    };
+    let rest = debit_row(row, token, n).map_err(|_| Refusal::InsufficientBalance)?;
     *supply = supply.minus(n);
     Ok((rest.0, 0))
 }
 
 // 3 Order: an offer moved from its member's row into a ticket.
+#[tactic(auto, unfolding(parts::specs::Parts::order_on, ledger::specs::Postings::debit_row_of))]
 pub fn order(row: &mut Row, ticket: &mut Ticket, o: Order) -> Answer
     requires { o.market < 4 }
     ensures { record { answer = result; row = row.new; ticket = ticket.new } ≡ order_on row.old ticket.old o }
@@ -43,15 +42,14 @@ pub fn order(row: &mut Row, ticket: &mut Ticket, o: Order) -> Answer
     let TicketState::Free = ticket.state else {
         return Err(Refusal::TicketInUse);
     };
-    let Ok(_) = debit_row(row, offered_token(o.side, o.market), o.offer) else {
-        return Err(Refusal::InsufficientBalance);
-    };
+    let token = offered_token(o.side, o.market);
+    debit_row(row, token, o.offer).map_err(|_| Refusal::InsufficientBalance)?;
     ticket.state = TicketState::Resting(o);
     Ok((o.offer.0, 0))
 }
 
 // 4 Cancel: a resting offer returned to its member's row.
-#[tactic(auto, using(crate::proofs::Laws::by_state))]
+#[tactic(auto, unfolding(parts::specs::Parts::cancel_on, ledger::specs::Postings::credit_row_of))]
 pub fn cancel(row: &mut Row, ticket: &mut Ticket, member: u32) -> Answer
     requires { CancelBounds row.old ticket.old }
     ensures { record { answer = result; row = row.new; ticket = ticket.new } ≡ cancel_on row.old ticket.old member }

@@ -3,9 +3,9 @@
 
 ghost use Rattle.std.specs.Prelude.{◌≡◌, [], ◌∷◌};
 ghost use Rattle.units.specs.Ranges.{last_member, last_side};
-ghost use Rattle.units.specs.Decide.{when, above};
+ghost use Rattle.units.specs.Decide.{when};
 ghost use Rattle.model.specs.declared.answer.Refusal.TheVariants.{NoSuchMember, NoSuchSide};
-ghost use Rattle.model.specs.Calls.{bank_form, order_form, cancel_form, open_form, ticket_form, market_form, bid_form};
+ghost use Rattle.model.specs.Calls.{above, bank_form, order_form, cancel_form, open_form, ticket_form, market_form, bid_form};
 ghost use Rattle.parts.specs.Parts.{form_of};
 
 use model::answer::Refusal;
