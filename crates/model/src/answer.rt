@@ -62,18 +62,12 @@ pub fn code(answer: Answer) -> u32
 pub fn first(answer: Answer) -> u32
     ensures { result ≡ first_of answer }
 {
-    match answer {
-        Ok((first, _)) => first,
-        Err(_) => 0,
-    }
+    answer.map_or(0, |(first, _)| first)
 }
 
 // An answer's second number, 0 where it is refused.
 pub fn second(answer: Answer) -> u32
     ensures { result ≡ second_of answer }
 {
-    match answer {
-        Ok((_, second)) => second,
-        Err(_) => 0,
-    }
+    answer.map_or(0, |(_, second)| second)
 }
