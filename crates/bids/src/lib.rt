@@ -83,6 +83,7 @@ fn traded_round(r: Round, side: Side, n: Amount, q: Amount) -> Round
 }
 
 // 8 Bid: a maker takes of what one side's orders left, at the auction's price.
+#[tactic(auto, unfolding(parts::specs::Parts::bid_on))]
 pub fn bid(
     market: &mut Market,
     row: &mut Row,
@@ -113,7 +114,7 @@ pub fn bid(
         return Err(Refusal::BoundMissed);
     }
     let q = quote.to_amount();
-    // what the maker gives, and then takes
+    // what the maker gives, and then takes, which always fits
     let Ok(_) = debit_row(row, wanted_token(side, number), by_side(side, n, q)) else {
         return Err(Refusal::InsufficientBalance);
     };

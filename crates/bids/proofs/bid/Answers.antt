@@ -1,23 +1,35 @@
 -- `bids::bid` meets its contract.
-use mathlib.Core.Path.{sym, ap}
-use Rattle.model.specs.State.{is_auction}
-use Rattle.bids.proofs.Laws.{bid_elsewhere}
+use Rattle.std.proofs.Common.{◌≡◌, false, arith}
+use Rattle.std.proofs.lemmas.Grind.{common_steps}
+use Rattle.model.specs.State.{totals_of}
+use Rattle.model.specs.Calls.{not_available}
+use Rattle.parts.specs.Parts.{bid_on}
+use Rattle.ledger.specs.Postings.{debit_row_of}
+use Rattle.bids.proofs.Laws.{trade_fits, takes_fit, given_taken}
 use Rattle.bids.proofs.bid.Goals as goal
 
-pub returns-in-Closed : goal.returns-in-Closed
-returns-in-Closed c =
-    let s = c.args in
-    rw c.refused.ensures
-    (sym (bid_elsewhere s.market s.row s.last s.number s.block.0 s.side s.n.0 s.bound.0 (ap is_auction c.in-Closed.is)))
+pub quote_at-quote-requires : goal.quote_at-quote-requires
+quote_at-quote-requires c = grind (arith, common_steps, c.requires c.in-Auction.r c.in-Auction.is)
 
-pub returns-in-Collect : goal.returns-in-Collect
-returns-in-Collect c =
-    let s = c.args in
-    rw c.refused-in-Collect.ensures
-    (sym (bid_elsewhere s.market s.row s.last s.number s.block.0 s.side s.n.0 s.bound.0 (ap is_auction c.in-Collect.is)))
+pub not_available-requires : goal.not_available-requires
+not_available-requires c = grind (arith, common_steps, c.requires c.in-Auction.r c.in-Auction.is)
 
-pub returns-in-Paying : goal.returns-in-Paying
-returns-in-Paying c =
+pub returns-in_default-debit_row : goal.returns-in_default-debit_row
+unfolding bid_on debit_row_of
+returns-in_default-debit_row c = grind (arith, common_steps, c.requires c.in-Auction.r c.in-Auction.is)
+
+pub traded_round-requires : goal.traded_round-requires
+unfolding debit_row_of
+traded_round-requires c = grind (arith, common_steps, trade_fits, c.requires c.in-Auction.r c.in-Auction.is)
+
+pub returns : goal.returns
+unfolding bid_on
+returns c =
+    let b = c.requires c.in-Auction.r c.in-Auction.is in
     let s = c.args in
-    rw c.refused-in-Paying.ensures
-    (sym (bid_elsewhere s.market s.row s.last s.number s.block.0 s.side s.n.0 s.bound.0 (ap is_auction c.in-Paying.is)))
+    let q = c.to_amount-q.result.0 in
+    let available : not_available s.side s.n.0 q (totals_of c.in-Auction.r s.side) ≡ false = grind (arith, common_steps) in
+    let row = given_taken _ _ _ _ _ _ s.side s.number s.n.0 q b.market b.cells (takes_fit _ _ _ _ b s.side s.n.0 q available)
+    (rw (c.wanted_token.ensures, c.by_side.ensures) at c.debit_row.ensures) c.in-Ok.is
+    (rw (c.offered_token.ensures, c.by_side-2.ensures) at c.credit_row.ensures) in
+    grind (arith, common_steps)
