@@ -62,3 +62,12 @@ put_alone n = text_alone (digits n)
 
 pub number_bounded : (k n : ℕ) → n < 10 ^ suc k → NumberBounded n (suc k)
 number_bounded k n h = record { some = digits_some n; within = digits_most k n h }
+
+-- of 32 bits and of 64
+pub ten_bounded : (n : ℕ) → n < 2 ^ 32 → NumberBounded n 10
+ten_bounded n h = number_bounded 9 n (omega arith)
+
+pub twenty_bounded : (n : ℕ) → n < 2 ^ 64 → NumberBounded n 20
+twenty_bounded n h = number_bounded 19 n (omega arith)
+
+pub ruleset number_bounds = (ten_bounded, twenty_bounded)

@@ -39,13 +39,10 @@ module _ (out text : List ℕ) where
   unfolding put_count
   count_within = by_test (leb (length text) (length out)) (λ t. rw t (leb-true _ _ t)) (λ t. rw t (omega arith))
 
-  -- what a writer of all the text, or of nothing, answers and leaves
+  -- what a writer of all the text answers and leaves
   pub put_whole : {p : ℕ} {y : List ℕ} → p ≡ length text → y ≡ put_at out 0 text → length text ≤ length out
       → (p ≡ put_count out text) × (y ≡ put_into out text)
   put_whole e w h = (e ∙ sym (count_fits h), w ∙ sym (put_at_lem h))
-
-  pub put_nothing : length out < length text → (0 ≡ put_count out text) × (out ≡ put_into out text)
-  put_nothing h = (sym (count_short h), sym (put_short h))
 
   pub from_fits : (at : ℕ) → at + length text ≤ length out → put_from out at text ≡ put_at out at text
   unfolding put_from
@@ -54,6 +51,9 @@ module _ (out text : List ℕ) where
   pub from_short : (at : ℕ) → length out < at + length text → put_from out at text ≡ out
   unfolding put_from
   from_short at h = rw (lt-leb _ _ h)
+
+-- what text put into a part is, where it fits and where it does not
+pub ruleset puts = (put_at_lem, put_short, count_fits, count_short)
 
 -- a store at i, and what stands from i on
 drop_store : (l : List ℕ) (i a : ℕ) → i < length l → drop i (set l i a) ≡ a ∷ drop (suc i) l
@@ -100,6 +100,12 @@ put_field xs d at e h =
     ∙ append_assoc (take at xs) d _
     ∙ ap (λ (l : List ℕ). take at xs ++ (d ++ (e ∷ l))) tail
     ∙ ap (λ (l : List ℕ). take at xs ++ l) (sym (append_assoc d (e ∷ []) _))
+
+-- the same where the part is lent, and the digits are k
+pub put_ended : (xs d : List ℕ) (at k e : ℕ) → k ≡ length d → at + length d + 1 ≤ length xs
+    → set (take at xs ++ (put_at (take (length xs - at) (drop at xs)) 0 d ++ drop (length xs - at) (drop at xs))) (at + k) e
+    ≡ put_at xs at (d ++ (e ∷ []))
+put_ended xs d at k e is h = rw (is, part_all xs at) (put_field xs d at e h)
 
 pub put_length : (xs t : List ℕ) (at : ℕ) → at + length t ≤ length xs → length (put_at xs at t) ≡ length xs
 unfolding put_at

@@ -1,9 +1,5 @@
-use Prim.Native.Nat.{◌≤◌}
 use Rattle.decimal.proofs.Storing.{Storing}
 use Rattle.decimal.proofs.write_number.Given as goal
 
-abbrev pub invariant-loop-m : goal.invariant-loop-m
-invariant-loop-m l = Storing l.fn.out l.fn.n l.out l.i l.m × (l.m ≤ l.fn.n)
-
-abbrev pub decreases-loop-m : goal.decreases-loop-m
-decreases-loop-m l = l.m
+abbrev pub invariant-loop-i : goal.invariant-loop-i
+invariant-loop-i l = Storing l.fn.out l.fn.n l.out l.i l.m
