@@ -4,49 +4,35 @@
 
 ghost use Rattle.std.specs.Prelude.{◌≡◌, ◌<◌, ◌≤◌};
 ghost use Rattle.model.specs.State.{totals_of};
-ghost use Rattle.model.specs.Calls.{minus_total, left_round};
+ghost use Rattle.model.specs.Calls.{left_round};
 ghost use Rattle.model.specs.Bounds.{held_in};
 ghost use Rattle.parts.specs.Asked.{LeaveBounds};
 ghost use Rattle.parts.specs.Parts.{leave_on};
 
 use model::answer::{Answer, Refusal};
 use model::state::{Market, Phase, Round, Ticket, TicketState};
-use pricing::{Side, Totals};
+use pricing::Side;
 use ticket_set::remove;
 use units::Amount;
 
-// A side with less offered.
-fn minus_total(t: Totals, n: Amount) -> Totals
-    requires { n.0 ≤ t.total.0 }
-    ensures { result ≡ minus_total t n.0 }
-{
-    Totals {
-        total: t.total.minus(n),
-        ..t
-    }
-}
-
-// A round without a ticket in its set, and without its offer in its side's total and in what the round holds.
-fn left_round(r: Round, ticket: u32, side: Side, offer: Amount) -> Round
+// A ticket leaves a round: its set, and with its offer its side's total and what the round holds. Enter's join with minus for plus; one form for
+// both would take the sum as a closure, and state each bound and each result by that closure's conditions.
+fn take_out(r: &mut Round, ticket: u32, side: Side, offer: Amount)
     requires { (ticket < 64)
-        × (offer.0 ≤ (totals_of r side).total.0)
-        × (offer.0 ≤ held_in r side) }
-    ensures { result ≡ left_round r ticket side offer.0 }
+        × (offer.0 ≤ (totals_of r.old side).total.0)
+        × (offer.0 ≤ held_in r.old side) }
+    ensures { r.new ≡ left_round r.old ticket side offer.0 }
 {
-    let tickets = remove(r.tickets, ticket);
+    r.tickets = remove(r.tickets, ticket);
     match side {
-        Side::Buy => Round {
-            tickets,
-            buys: minus_total(r.buys, offer),
-            quote: r.quote.minus(offer),
-            ..r
-        },
-        Side::Sell => Round {
-            tickets,
-            sells: minus_total(r.sells, offer),
-            base: r.base.minus(offer),
-            ..r
-        },
+        Side::Buy => {
+            r.buys.total = r.buys.total.minus(offer);
+            r.quote = r.quote.minus(offer);
+        }
+        Side::Sell => {
+            r.sells.total = r.sells.total.minus(offer);
+            r.base = r.base.minus(offer);
+        }
     }
 }
 
@@ -61,10 +47,10 @@ pub fn leave(t: &mut Ticket, market: &mut Market, ticket: u32, member: u32) -> A
         TicketState::Resting(o) if o.member == member => return Err(Refusal::WrongTicketState),
         _ => return Err(Refusal::NoSuchOrder),
     };
-    let Phase::Collect(r) = market.phase else {
+    let Phase::Collect(r) = &mut market.phase else {
         return Err(Refusal::WrongPhase);
     };
+    take_out(r, ticket, o.side, o.offer);
     t.state = TicketState::Resting(o);
-    market.phase = Phase::Collect(left_round(r, ticket, o.side, o.offer));
     Ok((o.offer.0, 0))
 }
