@@ -2,13 +2,14 @@
 // and what it asks of numbers is what a call's form gives.
 #![tactic(auto)]
 
-ghost use Rattle.std.specs.Prelude.{◌≡◌, ◌<◌, ◌≤◌, ◌+◌, ◌-◌};
-ghost use Rattle.units.specs.Counts.{amount, largest};
+ghost use Rattle.std.specs.Prelude.{◌≡◌, ◌<◌, ◌≤◌, ◌+◌};
+ghost use Rattle.units.specs.Counts.{largest};
+ghost use Rattle.ledger.specs.Balances.{cell_of, credited_row};
 ghost use Rattle.model.specs.Sides.{by_side};
-ghost use Rattle.model.specs.State.{resting_or, closed_market};
-ghost use Rattle.model.specs.Calls.{claimed_round, share_in, got_in};
-ghost use Rattle.parts.specs.Asked.{PayBounds, ClaimFits};
-ghost use Rattle.parts.specs.Parts.{paid_on, claim_on};
+ghost use Rattle.model.specs.State.{resting_or};
+ghost use Rattle.model.specs.Calls.{claimed_round};
+ghost use Rattle.parts.specs.Asked.{ClaimFits};
+ghost use Rattle.parts.specs.Parts.{claim_on};
 
 use ledger::{Row, credit_row};
 use model::answer::{Answer, Refusal};
@@ -18,75 +19,41 @@ use sides::{by_side, totals_of, wanted_token};
 use ticket_set::{count, remove};
 use units::Amount;
 
-// A ticket with the rest of its order, free where that is 0.
-fn resting_or(o: Order, rest: Amount) -> Ticket
-    ensures { result ≡ record { state = resting_or o rest.0 } }
+// What is left of an order rests; where that is 0, the ticket is free.
+fn resting_or(o: Order, rest: Amount) -> TicketState
+    ensures { result ≡ resting_or o rest.0 }
 {
-    let state = if rest == Amount(0) {
+    if rest == Amount(0) {
         TicketState::Free
     } else {
         TicketState::Resting(Order { offer: rest, ..o })
-    };
-    Ticket { state }
+    }
 }
 
-// A round with a ticket's bit cleared, and its refund and what it got moved out.
-fn claimed_round(r: Round, ticket: u32, side: Side, refund: Amount, got: Amount) -> Round
+// A ticket's bit cleared in its round, and its refund and what it got moved out.
+fn move_out(r: &mut Round, ticket: u32, side: Side, refund: Amount, got: Amount)
     requires { (ticket < 64)
-        × (by_side side refund.0 got.0 ≤ r.quote.0)
-        × (by_side side got.0 refund.0 ≤ r.base.0) }
-    ensures { result ≡ claimed_round r ticket side refund.0 got.0 }
+        × (by_side side refund.0 got.0 ≤ r.old.quote.0)
+        × (by_side side got.0 refund.0 ≤ r.old.base.0) }
+    ensures { r.new ≡ claimed_round r.old ticket side refund.0 got.0 }
 {
-    Round {
-        tickets: remove(r.tickets, ticket),
-        quote: r.quote.minus(by_side(side, refund, got)),
-        base: r.base.minus(by_side(side, got, refund)),
-        ..r
-    }
+    r.tickets = remove(r.tickets, ticket);
+    r.quote = r.quote.minus(by_side(side, refund, got));
+    r.base = r.base.minus(by_side(side, got, refund));
 }
 
-// The last claim of a round: the market closes, and what the round still holds goes into the residue.
-fn close(market: &mut Market, quote: &mut Amount, base: &mut Amount, r: Round)
-    requires { (quote.old.0 + r.quote.0 ≤ largest) × (base.old.0 + r.base.0 ≤ largest) }
-    ensures market { market.new ≡ closed_market }
-    ensures quote { quote.new ≡ amount (quote.old.0 + r.quote.0) }
-    ensures base { base.new ≡ amount (base.old.0 + r.base.0) }
+// What an order gets, added to its member's row: it fits, so the ledger refuses nothing.
+#[tactic(auto, unfolding(ledger::specs::Postings::credit_row_of))]
+fn credit(row: &mut Row, token: u32, n: Amount)
+    requires { (token < 4) × (cell_of row.old token + n.0 ≤ largest) }
+    ensures { row.new ≡ credited_row row.old token n.0 }
 {
-    market.phase = Phase::Closed;
-    *quote = quote.plus(r.quote);
-    *base = base.plus(r.base);
+    let _ = credit_row(row, token, n);
 }
 
-// Order o of a ticket paid its share out of its round.
-fn pay(
-    t: &mut Ticket,
-    market: &mut Market,
-    row: &mut Row,
-    quote: &mut Amount,
-    base: &mut Amount,
-    ticket: u32,
-    o: Order,
-    r: Round,
-) -> Answer
-    requires { (ticket < 64) × PayBounds o r row.old quote.old base.old ticket }
-    ensures { record { answer = result; ticket = t.new; market = market.new; row = row.new; quote = quote.new; base = base.new }
-        ≡ paid_on row.old quote.old base.old o (share_in r o) (got_in r o)
-        (claimed_round r ticket o.side (o.offer.0 - share_in r o) (got_in r o)) }
-{
-    let share = share_of(o.offer, totals_of(r, o.side));
-    let refund = o.offer.minus(share.paid);
-    let next = claimed_round(r, ticket, o.side, refund, share.got);
-    *t = resting_or(o, refund);
-    let _ = credit_row(row, wanted_token(o.side, o.market), share.got);
-    if count(next.tickets) == 0 {
-        close(market, quote, base, next);
-    } else {
-        market.phase = Phase::Paying(next);
-    }
-    Ok((share.paid.0, share.got.0))
-}
-
-// 10 Claim: a ticket in a round that pays is paid its share.
+// 10 Claim: a ticket in a round that pays is paid its share. The last claim closes the market, and what the round still holds goes into the
+// residue.
+#[tactic(auto, using(model::proofs::Frames::wanted_lt), unfolding(parts::specs::Parts::claim_on, pricing::specs::Prices::share_of))]
 pub fn claim(
     t: &mut Ticket,
     market: &mut Market,
@@ -104,8 +71,18 @@ pub fn claim(
         TicketState::Resting(_) => return Err(Refusal::WrongTicketState),
         TicketState::Entered(o) => o,
     };
-    let Phase::Paying(r) = market.phase else {
+    let Phase::Paying(r) = &mut market.phase else {
         return Err(Refusal::WrongPhase);
     };
-    pay(t, market, row, quote, base, ticket, o, r)
+    let share = share_of(o.offer, totals_of(*r, o.side));
+    let refund = o.offer.minus(share.paid);
+    move_out(r, ticket, o.side, refund, share.got);
+    t.state = resting_or(o, refund);
+    credit(row, wanted_token(o.side, o.market), share.got);
+    if count(r.tickets) == 0 {
+        *quote = quote.plus(r.quote);
+        *base = base.plus(r.base);
+        market.phase = Phase::Closed;
+    }
+    Ok((share.paid.0, share.got.0))
 }
