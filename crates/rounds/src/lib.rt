@@ -69,14 +69,14 @@ fn matched_round(r: Round, block: Block, t: Trade) -> Round
     Round {
         start: block,
         buys: Totals {
-            total: r.buys.total,
             paid: t.quote,
             got: t.base,
+            ..r.buys
         },
         sells: Totals {
-            total: r.sells.total,
             paid: t.base,
             got: t.quote,
+            ..r.sells
         },
         ..r
     }
