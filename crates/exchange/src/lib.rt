@@ -84,11 +84,13 @@ fn on_claim(x: &mut Exchange, ticket: u32) -> Answer
 }
 
 // One call on a state lent to it: its answer. x is then the state after it.
+#[tactic(auto, using(crate::proofs::Works::work_places, crate::proofs::Works::work_step, crate::proofs::Works::no_work_step))]
 pub fn apply(x: &mut Exchange, c: Call) -> Answer
     requires { Reachable x.old }
     ensures { record { answer = result; exchange = x.new } ≡ step_of x.old c }
 {
-    match work_of(c)? {
+    let work = work_of(c)?;
+    match work {
         Work::Account {
             member,
             token,

@@ -1,4 +1,5 @@
--- A state held in two locals, all but its ledger and the ledger, and the work of a call done on the parts where they lie.
+-- The work of a call done on the parts of a state where they lie.
+use Rattle.std.specs.Prelude.{Ok}
 use Prim.Native.Nat.{ℕ, ◌-◌, ◌<◌}
 use mathlib.Core.Path.{◌≡◌, sym, ap, ap₂, ◌∙◌, subst}
 use mathlib.Core.List.{List}
@@ -33,10 +34,6 @@ use Rattle.work.specs.declared.Work.TheVariants.{Account, Market, Entry, Claim}
 use Rattle.work.specs.Work.{Posted, work_done, PlacesExist, AccountFits, account_on, MarketFits, market_on, EntryFits, entry_on, put_posted}
 use Rattle.work.proofs.Laws.{account_fits, market_fits, entry_fits}
 
--- the state that the two locals hold
-abbrev pub held : Exchange → Ledger → Exchange
-held x l = set_ledger x l
-
 -- ---- work on a row of four leaves a row of four
 
 account_row : (row : Row) → RowShaped row → (supply : Amount) (k : Ticket) (m t : ℕ) (act : AccountAct) → RowShaped (account_on row supply k m t act).row
@@ -51,36 +48,36 @@ market_row q row z last n at MarketAct.Match = z
 market_row q row z last n at (MarketAct.Bid side base bound) = bid_row row z q last n at side base.0 bound.0
 market_row q row z last n at MarketAct.Settle = z
 
-module _ (x : Exchange) (l : Ledger) (h : Reachable (held x l)) where
-  b : Bounded (held x l)
-  b = reachable_bounded (held x l) h
+module _ (x : Exchange) (h : Reachable x) where
+  b : Bounded x
+  b = reachable_bounded x h
 
   -- a member's row read where it lies, and one of four stored there
-  read : (m : ℕ) → m < 16 → get_or l.rows m no_row ≡ row_of l m
-  read m hm = row_read l m b.rows hm
+  read : (m : ℕ) → m < 16 → get_or x.ledger.rows m no_row ≡ row_of x.ledger m
+  read m hm = row_read x.ledger m b.rows hm
 
-  put : (m : ℕ) → m < 16 → (r : Row) → RowShaped r → ◌≡◌ {A = Ledger} (record { rows = set l.rows m r }) (with_row l m r)
-  put m hm = row_stored l m b.rows hm
+  put : (m : ℕ) → m < 16 → (r : Row) → RowShaped r → ◌≡◌ {A = Ledger} (record { rows = set x.ledger.rows m r }) (with_row x.ledger m r)
+  put m hm = row_stored x.ledger m b.rows hm
 
-  four : (m : ℕ) → m < 16 → RowShaped (row_of l m)
-  four m hm = (rows_taken l m).shaped b.rows hm
+  four : (m : ℕ) → m < 16 → RowShaped (row_of x.ledger m)
+  four m hm = (rows_taken x.ledger m).shaped b.rows hm
 
   -- ---- what work asks of parts where they lie
 
   pub account_asks : (m t k : ℕ) (act : AccountAct) → PlacesExist (Account m t k act)
-      → AccountFits (get_or l.rows m no_row) (supply_at x t) (ticket_at x k) t act
+      → AccountFits (get_or x.ledger.rows m no_row) (supply_at x t) (ticket_at x k) t act
   account_asks m t k act p =
-      subst (λ (row : Row). AccountFits row (supply_at x t) (ticket_at x k) t act) (sym (read m p.0)) (account_fits (held x l) b m t k act p)
+      subst (λ (row : Row). AccountFits row (supply_at x t) (ticket_at x k) t act) (sym (read m p.0)) (account_fits x b m t k act p)
 
   pub market_asks : (n m : ℕ) (at : Block) (act : MarketAct) → PlacesExist (Market n m at act)
-      → MarketFits (get_or x.markets (n - 1) closed_market) (get_or l.rows m no_row) x.last n act
+      → MarketFits (get_or x.markets (n - 1) closed_market) (get_or x.ledger.rows m no_row) x.last n act
   market_asks n m at act p =
       subst (λ (row : Row). MarketFits (get_or x.markets (n - 1) closed_market) row x.last n act) (sym (read m p.2))
-      (subst (λ (q : State_as_Market). MarketFits q (row_of l m) x.last n act) (sym (market_place x.markets n p.0)) (market_fits (held x l) b n m at act p))
+      (subst (λ (q : State_as_Market). MarketFits q (row_of x.ledger m) x.last n act) (sym (market_place x.markets n p.0)) (market_fits x b n m at act p))
 
   module _ (k : ℕ) (hk : k < 64) (n : ℕ) (en : n ≡ ticket_market (ticket x k)) where
     pub places : (0 < n) × (n < 4) × (ticket_member (ticket x k) < 16)
-    places = subst (λ (j : ℕ). (0 < j) × (j < 4) × (ticket_member (ticket x k) < 16)) (sym en) (ticket_places (held x l) b k hk)
+    places = subst (λ (j : ℕ). (0 < j) × (j < 4) × (ticket_member (ticket x k) < 16)) (sym en) (ticket_places x b k hk)
 
     member_in : (m : ℕ) → m ≡ ticket_member (ticket x k) → m < 16
     member_in m em = subst (λ (j : ℕ). j < 16) (sym em) places.2
@@ -89,35 +86,35 @@ module _ (x : Exchange) (l : Ledger) (h : Reachable (held x l)) where
     market_is = market_place x.markets n places.0 ∙ ap (market_at x.markets) en
 
     pub entry_asks : (act : EntryAct) → EntryFits (ticket_at x k) (get_or x.markets (n - 1) closed_market) act
-    entry_asks act = subst (λ (q : State_as_Market). EntryFits (ticket_at x k) q act) (sym market_is) (entry_fits (held x l) b k act hk)
+    entry_asks act = subst (λ (q : State_as_Market). EntryFits (ticket_at x k) q act) (sym market_is) (entry_fits x b k act hk)
 
     pub claim_asks : (m : ℕ) → m ≡ ticket_member (ticket x k)
-        → ClaimFits (ticket_at x k) (get_or x.markets (n - 1) closed_market) (get_or l.rows m no_row) (residue_at x 0) (residue_at x n) k
+        → ClaimFits (ticket_at x k) (get_or x.markets (n - 1) closed_market) (get_or x.ledger.rows m no_row) (residue_at x 0) (residue_at x n) k
     claim_asks m em o r es ep =
         let member : m ≡ o.member = em ∙ ap ticket_member es in
         let market : n ≡ o.market = en ∙ ap ticket_market es in
         let phase : (market_at x.markets o.market).phase ≡ Paying r =
         ap (λ (s : TicketState). (market_at x.markets (ticket_market s)).phase) (sym es) ∙ ap (λ (q : State_as_Market). q.phase) (sym market_is) ∙ ep in
-        rw (read m (member_in m em), member, market) (pay_bounds (held x l) b k hk o r es phase)
+        rw (read m (member_in m em), member, market) (pay_bounds x b k hk o r es phase)
 
   -- ---- the parts stored where they lie
 
   pub account_held : (m t k : ℕ) (act : AccountAct) → PlacesExist (Account m t k act) → (p : Posted)
-      → p ≡ account_on (get_or l.rows m no_row) (supply_at x t) (ticket_at x k) m t act
+      → p ≡ account_on (get_or x.ledger.rows m no_row) (supply_at x t) (ticket_at x k) m t act
       → ◌≡◌ {A = Outcome}
       (record {
         answer = p.answer;
         exchange =
-            held (set_tickets (set_supply x (set x.supply t p.supply)) (set x.tickets k p.ticket))
-            (record { rows = set l.rows m p.row });
+            set_ledger (set_tickets (set_supply x (set x.supply t p.supply)) (set x.tickets k p.ticket))
+            (record { rows = set x.ledger.rows m p.row });
       })
-      (work_done (held x l) (Account m t k act))
+      (work_done x (Ok (Account m t k act)))
   account_held m t k act at p e =
-      let on : p ≡ account_on (row_of l m) (supply_at x t) (ticket_at x k) m t act =
+      let on : p ≡ account_on (row_of x.ledger m) (supply_at x t) (ticket_at x k) m t act =
       e ∙ ap (λ (row : Row). account_on row (supply_at x t) (ticket_at x k) m t act) (read m at.0) in
       let z : RowShaped p.row =
-      subst (λ (q : Posted). RowShaped q.row) (sym on) (account_row (row_of l m) (four m at.0) (supply_at x t) (ticket_at x k) m t act) in
-      ap (stored p) (put m at.0 p.row z) ∙ ap (put_posted (held x l) m t k) on
+      subst (λ (q : Posted). RowShaped q.row) (sym on) (account_row (row_of x.ledger m) (four m at.0) (supply_at x t) (ticket_at x k) m t act) in
+      ap (stored p) (put m at.0 p.row z) ∙ ap (put_posted x m t k) on
     where
       stored : Posted → Ledger → Outcome
       stored p l₁ =
@@ -127,21 +124,21 @@ module _ (x : Exchange) (l : Ledger) (h : Reachable (held x l)) where
           }
 
   pub market_held : (n m : ℕ) (at : Block) (act : MarketAct) → PlacesExist (Market n m at act) → (p : Traded)
-      → p ≡ market_on (get_or x.markets (n - 1) closed_market) (get_or l.rows m no_row) x.last n at.0 act
+      → p ≡ market_on (get_or x.markets (n - 1) closed_market) (get_or x.ledger.rows m no_row) x.last n at.0 act
       → ◌≡◌ {A = Outcome}
       (record {
         answer = p.answer;
         exchange =
-            held (set_last (set_markets x (set x.markets (n - 1) p.market)) p.last)
-            (record { rows = set l.rows m p.row });
+            set_ledger (set_last (set_markets x (set x.markets (n - 1) p.market)) p.last)
+            (record { rows = set x.ledger.rows m p.row });
       })
-      (work_done (held x l) (Market n m at act))
+      (work_done x (Ok (Market n m at act)))
   market_held n m at act i p e =
-      let on : p ≡ market_on (market_at x.markets n) (row_of l m) x.last n at.0 act =
+      let on : p ≡ market_on (market_at x.markets n) (row_of x.ledger m) x.last n at.0 act =
       e ∙ ap₂ (λ (q : State_as_Market) (row : Row). market_on q row x.last n at.0 act) (market_place x.markets n i.0) (read m i.2) in
       let z : RowShaped p.row =
-      subst (λ (q : Traded). RowShaped q.row) (sym on) (market_row (market_at x.markets n) (row_of l m) (four m i.2) x.last n at.0 act) in
-      ap₂ (stored p) (put m i.2 p.row z) (set_market_place x.markets n p.market i.0) ∙ ap (put_traded (held x l) n m) on
+      subst (λ (q : Traded). RowShaped q.row) (sym on) (market_row (market_at x.markets n) (row_of x.ledger m) (four m i.2) x.last n at.0 act) in
+      ap₂ (stored p) (put m i.2 p.row z) (set_market_place x.markets n p.market i.0) ∙ ap (put_traded x n m) on
     where
       stored : Traded → Ledger → List State_as_Market → Outcome
       stored p l₁ ms =
@@ -153,43 +150,43 @@ module _ (x : Exchange) (l : Ledger) (h : Reachable (held x l)) where
         (record {
           answer = p.answer;
           exchange =
-              held (set_markets (set_tickets x (set x.tickets k p.ticket)) (set x.markets (n - 1) p.market)) l;
+              set_markets (set_tickets x (set x.tickets k p.ticket)) (set x.markets (n - 1) p.market);
         })
-        (work_done (held x l) (Entry k act))
+        (work_done x (Ok (Entry k act)))
     entry_held act p e =
         let pos : 0 < n = (places k hk n en).0 in
         ap (stored p) (set_market_place x.markets n p.market pos)
-        ∙ ap (put_joined (held x l) k n) (e ∙ ap (λ (q : State_as_Market). entry_on (ticket_at x k) q k act) (market_place x.markets n pos))
-        ∙ ap (λ (j : ℕ). put_joined (held x l) k j (entry_on (ticket_at x k) (market_at x.markets j) k act)) en
+        ∙ ap (put_joined x k n) (e ∙ ap (λ (q : State_as_Market). entry_on (ticket_at x k) q k act) (market_place x.markets n pos))
+        ∙ ap (λ (j : ℕ). put_joined x k j (entry_on (ticket_at x k) (market_at x.markets j) k act)) en
       where
         stored : Joined → List State_as_Market → Outcome
         stored p ms =
             record {
               answer = p.answer;
-              exchange = set_markets (set_tickets (set_ledger x l) (set x.tickets k p.ticket)) ms;
+              exchange = set_markets (set_tickets x (set x.tickets k p.ticket)) ms;
             }
 
     pub claim_held : (m : ℕ) → m ≡ ticket_member (ticket x k) → (p : Claimed)
-        → p ≡ claim_on (ticket_at x k) (get_or x.markets (n - 1) closed_market) (get_or l.rows m no_row) (residue_at x 0) (residue_at x n) k
+        → p ≡ claim_on (ticket_at x k) (get_or x.markets (n - 1) closed_market) (get_or x.ledger.rows m no_row) (residue_at x 0) (residue_at x n) k
         → ◌≡◌ {A = Outcome}
         (record {
           answer = p.answer;
           exchange =
-              held
+              set_ledger
               (set_markets (set_tickets (set_residue x (set (set x.residue 0 p.quote) n p.base)) (set x.tickets k p.ticket)) (set x.markets (n - 1) p.market))
-              (record { rows = set l.rows m p.row });
+              (record { rows = set x.ledger.rows m p.row });
         })
-        (work_done (held x l) (Claim k))
+        (work_done x (Ok (Claim k)))
     claim_held m em p e =
         let pos : 0 < n = (places k hk n en).0 in
         let hm : m < 16 = member_in k hk n en m em in
-        let on : p ≡ claim_on (ticket_at x k) (market_at x.markets n) (row_of l m) (residue_at x 0) (residue_at x n) k =
+        let on : p ≡ claim_on (ticket_at x k) (market_at x.markets n) (row_of x.ledger m) (residue_at x 0) (residue_at x n) k =
         e ∙ ap₂ (λ (q : State_as_Market) (row : Row). claim_on (ticket_at x k) q row (residue_at x 0) (residue_at x n) k) (market_place x.markets n pos) (read m hm) in
         let z : RowShaped p.row =
-        subst (λ (q : Claimed). RowShaped q.row) (sym on) (claim_row (row_of l m) (four m hm) (ticket_at x k) (market_at x.markets n) (residue_at x 0) (residue_at x n) k) in
+        subst (λ (q : Claimed). RowShaped q.row) (sym on) (claim_row (row_of x.ledger m) (four m hm) (ticket_at x k) (market_at x.markets n) (residue_at x 0) (residue_at x n) k) in
         ap₂ (stored p) (put m hm p.row z) (set_market_place x.markets n p.market pos)
-        ∙ ap (put_claimed (held x l) k n m) on
-        ∙ ap₂ (λ (j i : ℕ). put_claimed (held x l) k j i (claim_on (ticket_at x k) (market_at x.markets j) (row_of l i) (residue_at x 0) (residue_at x j) k)) en em
+        ∙ ap (put_claimed x k n m) on
+        ∙ ap₂ (λ (j i : ℕ). put_claimed x k j i (claim_on (ticket_at x k) (market_at x.markets j) (row_of x.ledger i) (residue_at x 0) (residue_at x j) k)) en em
       where
         stored : Claimed → Ledger → List State_as_Market → Outcome
         stored p l₁ ms =
