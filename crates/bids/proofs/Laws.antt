@@ -14,7 +14,7 @@ use Rattle.ledger.specs.Balances.{RowShaped, cell_of, credited_row, debited_row}
 use Rattle.ledger.specs.Postings.{Entry, RowPosting, credit_row_of, debit_row_of}
 use Rattle.ledger.proofs.Laws.{row_debits}
 use Rattle.model.specs.declared.state.Round.{Round}
-use Rattle.model.specs.Sides.{other, offered, wanted, gives, takes}
+use Rattle.model.specs.Sides.{other, by_side, offered, wanted, gives, takes}
 use Rattle.model.specs.State.{totals_of}
 use Rattle.model.specs.Calls.{not_available}
 use Rattle.model.proofs.Frames.{offered_lt, wanted_lt}
@@ -37,6 +37,11 @@ module _ (r : Round) (row : Row) (last : Block) (number : ℕ) (b : BidBounds r 
       }
 
 -- ---- the maker's row
+
+-- an amount that a side chooses
+pub amount_by_side : (s : Side) (a b : Amount) → (by_side s a b).0 ≡ by_side s a.0 b.0
+amount_by_side Buy a b = refl
+amount_by_side Sell a b = refl
 
 -- a debit that is done, and then a credit that fits
 pub given_taken : (row paid got : Row) (e f : Entry) (a : Amount) (s : Side) (number n q : ℕ) → number < 4 → RowShaped row

@@ -3,16 +3,14 @@
 #![tactic(auto)]
 
 ghost use Rattle.std.specs.Prelude.{◌≡◌};
-ghost use Rattle.units.specs.Counts.{amount};
 ghost use Rattle.model.specs.Sides.{side_of, by_side, offered, wanted};
 ghost use Rattle.model.specs.State.{totals_of};
 ghost use Rattle.parts.specs.Parts.{ticket_market, ticket_member};
 
 use model::state::{Round, Ticket, TicketState};
 use pricing::{Side, Totals};
-use units::Amount;
 
-// The side of a field that is 0 or 1.
+// The side of a field that is 0 or 1. Its definition has a side for every number, so it is no TryFrom.
 pub fn side_of(side: u32) -> Side
     ensures { result ≡ side_of side }
 {
@@ -20,12 +18,12 @@ pub fn side_of(side: u32) -> Side
 }
 
 // The first for buys, the second for sells.
-pub fn by_side(side: Side, a: Amount, b: Amount) -> Amount
-    ensures { result ≡ amount (by_side side a.0 b.0) }
+pub fn by_side<T: Drop>(side: Side, buys: T, sells: T) -> T
+    ensures { result ≡ by_side side buys sells }
 {
     match side {
-        Side::Buy => a,
-        Side::Sell => b,
+        Side::Buy => buys,
+        Side::Sell => sells,
     }
 }
 
@@ -33,41 +31,30 @@ pub fn by_side(side: Side, a: Amount, b: Amount) -> Amount
 pub fn offered_token(side: Side, market: u32) -> u32
     ensures { result ≡ offered side market }
 {
-    match side {
-        Side::Buy => 0,
-        Side::Sell => market,
-    }
+    by_side(side, 0, market)
 }
 
 // The token that a side of a market gets.
 pub fn wanted_token(side: Side, market: u32) -> u32
     ensures { result ≡ wanted side market }
 {
-    match side {
-        Side::Buy => market,
-        Side::Sell => 0,
-    }
+    by_side(side, market, 0)
 }
 
 // The total, paid and got of a side.
 pub fn totals_of(r: Round, side: Side) -> Totals
     ensures { result ≡ totals_of r side }
 {
-    match side {
-        Side::Buy => r.buys,
-        Side::Sell => r.sells,
-    }
+    by_side(side, r.buys, r.sells)
 }
 
 // The market of a ticket's order, 1 where it is free.
 pub fn ticket_market(t: Ticket) -> u32
     ensures { result ≡ ticket_market t.state }
 {
-    let s = t.state;
-    match s {
+    match t.state {
         TicketState::Free => 1,
-        TicketState::Resting(o) => o.market,
-        TicketState::Entered(o) => o.market,
+        TicketState::Resting(o) | TicketState::Entered(o) => o.market,
     }
 }
 
@@ -75,10 +62,8 @@ pub fn ticket_market(t: Ticket) -> u32
 pub fn ticket_member(t: Ticket) -> u32
     ensures { result ≡ ticket_member t.state }
 {
-    let s = t.state;
-    match s {
+    match t.state {
         TicketState::Free => 0,
-        TicketState::Resting(o) => o.member,
-        TicketState::Entered(o) => o.member,
+        TicketState::Resting(o) | TicketState::Entered(o) => o.member,
     }
 }

@@ -5,7 +5,7 @@ use Rattle.model.specs.State.{totals_of}
 use Rattle.model.specs.Calls.{not_available}
 use Rattle.parts.specs.Parts.{bid_on}
 use Rattle.ledger.specs.Postings.{debit_row_of}
-use Rattle.bids.proofs.Laws.{trade_fits, takes_fit, given_taken}
+use Rattle.bids.proofs.Laws.{trade_fits, takes_fit, given_taken, amount_by_side}
 use Rattle.bids.proofs.bid.Goals as goal
 
 pub quote_at-quote-requires : goal.quote_at-quote-requires
@@ -30,6 +30,6 @@ returns c =
     let q = c.to_amount-q.result.0 in
     let available : not_available s.side s.n.0 q (totals_of c.in-Auction.r s.side) ≡ false = grind (arith, common_steps) in
     let row = given_taken _ _ _ _ _ _ s.side s.number s.n.0 q b.market b.cells (takes_fit _ _ _ _ b s.side s.n.0 q available)
-    (rw (c.wanted_token.ensures, c.by_side.ensures) at c.debit_row.ensures) c.in-Ok.is
-    (rw (c.offered_token.ensures, c.by_side-2.ensures) at c.credit_row.ensures) in
+    (rw (c.wanted_token.ensures, c.by_side.ensures, amount_by_side) at c.debit_row.ensures) c.in-Ok.is
+    (rw (c.offered_token.ensures, c.by_side-2.ensures, amount_by_side) at c.credit_row.ensures) in
     grind (arith, common_steps)
