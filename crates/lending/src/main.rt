@@ -10,11 +10,14 @@
 //   where it does not fit, one that tells 21.
 #![tactic(auto)]
 
-ghost use Rattle.std.specs.Prelude.{◌≡◌, ◌<◌, ◌≤◌, length};
+ghost use Rattle.std.specs.Prelude.{◌≡◌, ◌<◌, ◌≤◌, ◌↔◌, List, [], ◌∷◌, ◌++◌, length, take, IsTrue};
+ghost use Rattle.decimal.specs.Buffer.{put_into};
 ghost use Rattle.model.specs.Run.{Reachable, step_of};
 ghost use Rattle.model.specs.State.{fresh_exchange};
+ghost use Rattle.model.specs.OrderLists.{orders_of};
 ghost use Rattle.model.specs.declared.state.Exchange.{Exchange};
-ghost use Rattle.replay.specs.Lines.{taken_of};
+ghost use Rattle.model.specs.declared.orders.OrderFields.{OrderFields};
+ghost use Rattle.replay.specs.Lines.{line_text, taken_of};
 
 use fields::read_fields;
 use lent::{place_orders_lent, step_lent, take_line_lent};
@@ -24,6 +27,7 @@ use model::answer::Answer;
 use model::call::Call;
 use model::orders::{AnswerPlace, OrderFields};
 use model::state::{Exchange, fresh};
+use replay::line::Answered;
 use std::io::{self, Write};
 use std::marker::Model;
 use std::time::Clock;
@@ -44,12 +48,17 @@ struct Printer<'a, C, W> {
 }
 
 impl<C: Clock, W: Write> Printer<'_, C, W> {
-    // An answer line. An error of the write is the caller's, as with all that print.
+    // An error of the write is the caller's, as with all that print.
+    fn print_text(&mut self, text: &[u8]) -> io::Result<()> {
+        stdio::write_all(self.clock, self.to, text)
+    }
+
+    // An answer line.
     #[tactic(auto, using(decimal::proofs::Put::count_within))]
     fn print(&mut self, number: u32, answer: Answer) -> io::Result<()> {
         let mut out = [0; LONGEST_ANSWER];
         let used = write_answer(&mut out, number, answer);
-        stdio::write_all(self.clock, self.to, &out[..used])
+        self.print_text(&out[..used])
     }
 
     // The places, numbered from 0.
@@ -99,7 +108,7 @@ fn room_of(number: u32) -> usize
 
 // ---- the host
 
-// The exchange, and the orders gathered for the next list call: the first count of the list.
+// The exchange, and the orders gathered for the next list call: the first count of the list. (An ArrayVec would want an order by default, and there is none.)
 #[derive(Drop)]
 struct Host {
     exchange: Exchange,
@@ -107,19 +116,19 @@ struct Host {
     list: [OrderFields; MOST_PLACES],
 }
 
-// Contracts see the exchange.
+// Contracts see the exchange and the orders gathered.
 impl Model for Host {
-    ghost Value = { Exchange };
+    ghost Value = { Exchange × List OrderFields };
 
-    ghost view = { λ h. h.exchange };
+    ghost view = { λ h. (h.exchange, take h.count h.list) };
 
-    ghost invariant = { λ h. Reachable h.exchange × (h.count ≤ 65) };
+    ghost invariant = { λ h. Reachable h.exchange × (h.count ≤ 65) × (length h.list ≡ 65) };
 }
 
 impl Host {
     // A fresh exchange, and no order gathered.
     fn new() -> Self
-        ensures { result ≡ fresh_exchange }
+        ensures { result ≡ (fresh_exchange, []) }
     {
         let none = OrderFields {
             ticket: 0,
@@ -136,104 +145,117 @@ impl Host {
         }
     }
 
-    // Gathers an order where fewer than 65 are gathered, and answers whether it did.
-    fn gather(&mut self, order: OrderFields) -> bool
-        ensures { self.new ≡ self.old }
+    // Whether no order more can be gathered.
+    fn is_full(&self) -> bool
+        ensures { IsTrue result ↔ (65 ≤ length self.now.1) }
     {
-        if self.count == MOST_PLACES {
-            return false;
-        }
+        self.count == MOST_PLACES
+    }
+
+    // One more order gathered.
+    fn gather(&mut self, order: OrderFields)
+        requires { length self.old.1 < 65 }
+        ensures { self.new ≡ (self.old.0, self.old.1 ++ order ∷ []) }
+    {
         self.list[self.count] = order;
         self.count += 1;
-        true
     }
 
     // A list call with the orders gathered. None is gathered after it.
-    fn place_gathered<C: Clock, W: Write>(
-        &mut self,
-        to: &mut Printer<'_, C, W>,
-        number: u32,
-        asked: u32,
-    ) -> io::Result<()> {
-        let mut places = fresh_places();
-        let places = &mut places[..(asked as usize).min(MOST_PLACES)];
+    fn place_gathered(&mut self, places: &mut [AnswerPlace]) -> Answer
+        ensures answer { result ≡ (orders_of self.old.0 self.old.1 places.old).answer }
+        ensures places { places.new ≡ (orders_of self.old.0 self.old.1 places.old).answers }
+        ensures state { self.new ≡ ((orders_of self.old.0 self.old.1 places.old).exchange, []) }
+    {
         let answer = place_orders_lent(&mut self.exchange, &self.list[..self.count], places);
         self.count = 0;
-        to.print(number, answer)?;
-        to.print_places(places)
+        answer
     }
 
     // A call, without its line.
-    fn make_call<C: Clock, W: Write>(
-        &mut self,
-        to: &mut Printer<'_, C, W>,
-        number: u32,
-        c: Call,
-    ) -> io::Result<()>
-        ensures { self.new ≡ (step_of self.old c).exchange }
+    fn make_call(&mut self, c: Call) -> Answer
+        ensures call { record { answer = result; exchange = self.new.0 } ≡ step_of self.old.0 c }
+        ensures gathered { self.new.1 ≡ self.old.1 }
     {
-        let answer = step_lent(&mut self.exchange, c);
-        to.print(number, answer)
+        step_lent(&mut self.exchange, c)
     }
 
-    // A line, whether it reads as a call or not. Where its answer line does not fit in what is lent (21), one of its own is printed.
-    fn make_line<C: Clock, W: Write>(
-        &mut self,
-        to: &mut Printer<'_, C, W>,
-        number: u32,
-        line: &[u8],
-    ) -> io::Result<()> {
-        let mut out = [0; LONGEST_ANSWER];
-        let out = &mut out[..room_of(number)];
-        let answered = take_line_lent(&mut self.exchange, number, line, out);
-        if answered.used == 0 {
-            return to.print(number, answered.answer);
-        }
-        stdio::write_all(to.clock, to.to, &out[..answered.used])
-    }
-
-    // A line, without its byte 10, by the first of the four that applies.
-    fn take_one<C: Clock, W: Write>(
-        &mut self,
-        to: &mut Printer<'_, C, W>,
-        number: u32,
-        line: &[u8],
-    ) -> io::Result<()> {
-        if let Some(asked) = places_asked(line) {
-            return self.place_gathered(to, number, asked);
-        }
-        match read_call(line) {
-            Some(Call::Order {
-                ticket,
-                member,
-                market,
-                side,
-                limit,
-                amount,
-            }) if self.gather(OrderFields {
-                ticket,
-                member,
-                market,
-                side,
-                limit,
-                amount,
-            }) =>
-            {
-                Ok(())
-            }
-            Some(c) if number % 2 == 0 => self.make_call(to, number, c),
-            _ => self.make_line(to, number, line),
-        }
+    // A line, whether it reads as a call or not.
+    fn make_line(&mut self, number: u32, line: &[u8], out: &mut [u8]) -> Answered
+        ensures line { record { answered = result; exchange = self.new.0 } ≡ taken_of self.old.0 number line.now (length out.old) }
+        ensures out_after { out.new ≡ put_into out.old (line_text self.old.0 number line.now) }
+        ensures within { result.used ≤ length out.new }
+        ensures gathered { self.new.1 ≡ self.old.1 }
+    {
+        take_line_lent(&mut self.exchange, number, line, out)
     }
 }
 
 // ---- the whole
 
+// A line, without its byte 10, by the first of the four that applies.
+fn take_one<C: Clock, W: Write>(
+    host: &mut Host,
+    to: &mut Printer<'_, C, W>,
+    number: u32,
+    line: &[u8],
+) -> io::Result<()> {
+    if let Some(asked) = places_asked(line) {
+        let mut places = fresh_places();
+        let places = &mut places[..(asked as usize).min(MOST_PLACES)];
+        let answer = host.place_gathered(places);
+        to.print(number, answer)?;
+        return to.print_places(places);
+    }
+    match read_call(line) {
+        Reading::Read(
+            Call::Order {
+                ticket,
+                member,
+                market,
+                side,
+                limit,
+                amount,
+            },
+        ) if !host.is_full() => {
+            host.gather(OrderFields {
+                ticket,
+                member,
+                market,
+                side,
+                limit,
+                amount,
+            });
+            Ok(())
+        }
+        Some(c) if number % 2 == 0 => {
+            let answer = host.make_call(c);
+            to.print(number, answer)
+        }
+        _ => {
+            let mut out = [0; LONGEST_ANSWER];
+            let out = &mut out[..room_of(number)];
+            let answered = host.make_line(number, line, out);
+            // where the answer line does not fit in what is lent (21), one of its own
+            if answered.used == 0 {
+                to.print(number, answered.answer)
+            } else {
+                to.print_text(&out[..answered.used])
+            }
+        }
+    }
+}
+
 // The lines of the input, numbered from 1, the last one also where it has no byte 10.
 fn take_lines<C: Clock, W: Write>(to: &mut Printer<'_, C, W>, input: &[u8]) -> io::Result<()> {
     let mut host = Host::new();
     for (number, piece) in (1..=u32::MAX).zip(input.split_inclusive(|b| *b == b'\n')) {
-        host.take_one(to, number, piece.strip_suffix(b"\n").unwrap_or(piece))?;
+        take_one(
+            &mut host,
+            to,
+            number,
+            piece.strip_suffix(b"\n").unwrap_or(piece),
+        )?;
     }
     Ok(())
 }
