@@ -208,7 +208,7 @@ fn take_one<C: Clock, W: Write>(
         return to.print_places(places);
     }
     match read_call(line) {
-        Reading::Read(
+        Some(
             Call::Order {
                 ticket,
                 member,
