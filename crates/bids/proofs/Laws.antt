@@ -40,8 +40,7 @@ module _ (r : Round) (row : Row) (last : Block) (number : ℕ) (b : BidBounds r 
 
 -- an amount that a side chooses
 pub amount_by_side : (s : Side) (a b : Amount) → (by_side s a b).0 ≡ by_side s a.0 b.0
-amount_by_side Buy a b = refl
-amount_by_side Sell a b = refl
+amount_by_side s a b = grind arith
 
 -- a debit that is done, and then a credit that fits
 pub given_taken : (row paid got : Row) (e f : Entry) (a : Amount) (s : Side) (number n q : ℕ) → number < 4 → RowShaped row
