@@ -1,5 +1,6 @@
 // Bid on the parts that it touches. Public for the crates above; what it asks of its parts holds of the parts of every reachable state,
 // and what it asks of numbers is what a call's form gives.
+// The market, the row and the last block are lent apart: a struct of the three would be made for each call, and taken apart in it.
 #![tactic(auto)]
 
 ghost use Rattle.std.specs.Prelude.{◌≡◌, ◌+◌, ◌≤◌};

@@ -1,4 +1,4 @@
--- `bids::bid` meets its contract.
+-- `bids::bid` meets its contract. Its `requires` gives a record, whose facts the check takes only where an answer names it.
 use Rattle.std.proofs.Common.{◌≡◌, false, arith}
 use Rattle.std.proofs.lemmas.Grind.{common_steps}
 use Rattle.model.specs.State.{totals_of}
