@@ -13,7 +13,7 @@ use Rattle.units.proofs.Cases.{false_not_true, by_test}
 use Rattle.decimal.proofs.Digits.{digits_some}
 use Rattle.model.specs.declared.call.Call.{Call}
 use Rattle.model.specs.Kinds.{Taking, Kind, from_fields, kinds}
-use Rattle.lines.specs.CallLines.{reading, read_in, of_kind}
+use Rattle.lines.specs.CallLines.{read_in, of_kind}
 use Rattle.lines.specs.CallText.{join_parts, line_of_numbers, line_of_call, Small}
 use Rattle.lines.proofs.RoundTrip.{Remade, remade, numbers_length, no_read}
 use Rattle.call_writer.specs.Writing.{longest_call, LinesBounded}
@@ -37,7 +37,7 @@ both true y e = (refl, e)
 both false y e = absurd (false_not_true e)
 
 -- as many fields as the kind has
-fields_count : (n : ℕ) (f : Taking n) (fields : List ℕ) (c : Call) → reading (from_fields n f fields) ≡ Some c → length fields ≡ n
+fields_count : (n : ℕ) (f : Taking n) (fields : List ℕ) (c : Call) → from_fields n f fields ≡ Some c → length fields ≡ n
 fields_count zero d [] c e = refl
 fields_count zero d (a ∷ fields) c e = absurd (no_read c e)
 fields_count (suc n) f [] c e = absurd (no_read c e)

@@ -1,10 +1,9 @@
 -- Kinds, fields, codes and answers, computed.
-use Rattle.std.specs.Prelude.{Ok}
+use Rattle.std.specs.Prelude.{Ok, Some, None}
 use Prim.Native.Nat.{◌<◌, ◌≤◌}
 use mathlib.Core.Path.{◌≡◌, refl, subst, sym}
 use mathlib.Core.List.{[], ◌∷◌, ◌++◌, map}
 use lib.ListN.{length, replicate}
-use mathlib.Core.Option.{some, none}
 use native.Mathlib.Omega.{arith}
 use Rattle.units.specs.Decimal.{digits}
 use Rattle.model.specs.declared.state.Exchange.{Exchange}
@@ -22,11 +21,11 @@ pub each_numbers_lem : map numbers_of_call each_call ≡ each_numbers
 unfolding each_call each_numbers
 each_numbers_lem = refl
 
-pub each_rows : map row_call kinds ≡ map some each_call
+pub each_rows : map row_call kinds ≡ map Some each_call
 unfolding each_call numbers_from
 each_rows = refl
 
-pub rows_exact : map row_more kinds ++ map row_fewer kinds ≡ replicate 22 none
+pub rows_exact : map row_more kinds ++ map row_fewer kinds ≡ replicate 22 None
 unfolding numbers_from
 rows_exact = refl
 

@@ -1,7 +1,6 @@
 -- Kinds, fields, codes and answers in numbers: a call of each kind whose fields are all different, the codes that it tests, and the number of
 -- every refusal.
-use Rattle.std.specs.Prelude.{ℕ, zero, suc, ◌+◌, ◌-◌, ◌≡◌, List, [], ◌∷◌, map, Ok, Err}
-use Rattle.std.proofs.Math.Option.{Option}
+use Rattle.std.specs.Prelude.{ℕ, zero, suc, ◌+◌, ◌-◌, ◌≡◌, List, [], ◌∷◌, map, Ok, Err, Option}
 use Rattle.units.specs.Decide.{Test}
 use Rattle.model.specs.declared.state.Exchange.{Exchange}
 use Rattle.model.specs.declared.call.Call.{Call}

@@ -1,10 +1,10 @@
 -- The numbers read byte by byte: `scan` is what the loops of the reader do, and `scan-line` says that it reads what the form of a
 -- line gives.
+use Rattle.std.specs.Prelude.{Some, None, Option}
 use mathlib.Core.Path.{◌≡◌, refl, sym, ap, ◌∙◌, subst}
 use mathlib.Core.Bool.{Bool, true, false, not, cond, ◌&&◌}
 use mathlib.Core.Logic.{◌⊎◌, inl, inr}
 use mathlib.Core.List.{List, [], ◌∷◌, ◌++◌, append_assoc, append-nil}
-use mathlib.Core.Option.{Option, some, none}
 use Prim.Native.Nat.{ℕ, suc, ◌+◌, ◌*◌, ◌-◌, ◌≤◌, ◌<◌}
 use native.Mathlib.Omega.{arith}
 use native.Mathlib.Nat.{le_refl, le_trans, not-suc-le-zero}
@@ -25,14 +25,14 @@ use Rattle.fields.specs.declared.FieldStep.TheVariants.{Value, End, Bad}
 abbrev pub on_step : FieldStep → (ℕ → Option (List ℕ)) → Option (List ℕ) → Option (List ℕ)
 on_step (Value w) f m = f w
 on_step End f m = m
-on_step Bad f m = none
+on_step Bad f m = None
 
 -- bytes, the numbers before them, whether a field has begun, and its value
 abbrev pub scan : List ℕ → List ℕ → Bool → ℕ → Option (List ℕ)
-scan [] ns s v = cond s (some (ns ++ (v ∷ []))) none
+scan [] ns s v = cond s (Some (ns ++ (v ∷ []))) None
 scan (b ∷ bs) ns s v =
-    cond (eqb b 44) (cond s (scan bs (ns ++ (v ∷ [])) false 0) none)
-    (on_step (field_step s v b) (λ w. scan bs ns true w) (cond s (some (ns ++ (v ∷ []))) none))
+    cond (eqb b 44) (cond s (scan bs (ns ++ (v ∷ [])) false 0) None)
+    (on_step (field_step s v b) (λ w. scan bs ns true w) (cond s (Some (ns ++ (v ∷ []))) None))
 
 -- ---- tests
 
@@ -74,11 +74,11 @@ number_bad [] e = refl
 number_bad (d ∷ []) e = sym (and_true (is_digit d)) ∙ e
 number_bad (d ∷ (f ∷ l)) e = rw e (and_false (not (eqb d 48)))
 
-no_digits : (l : List ℕ) → all_digits l ≡ false → number_of l ≡ none
+no_digits : (l : List ℕ) → all_digits l ≡ false → number_of l ≡ None
 unfolding number_of
 no_digits l e = rw (number_bad l e)
 
-too_large : (l : List ℕ) → largest < value_from 0 l → number_of l ≡ none
+too_large : (l : List ℕ) → largest < value_from 0 l → number_of l ≡ None
 unfolding number_of
 too_large l h = rw (lt-leb _ _ h, and_false)
 
@@ -95,7 +95,7 @@ number_more d [] z a = sym (and_true (is_digit d)) ∙ a
 number_more d (e ∷ ds) z a = rw (ne_eqb _ _ z, a)
 
 pub number_good : (d : ℕ) (ds : List ℕ) (v : ℕ) → (d ≡ 48 → ⊥) → all_digits (d ∷ ds) ≡ true → v ≡ value_from 0 (d ∷ ds) → v ≤ largest
-    → number_of (d ∷ ds) ≡ some v
+    → number_of (d ∷ ds) ≡ Some v
 unfolding number_of
 number_good d ds v z a e h = rw (number_more d ds z a, ← e, le-leb _ _ h)
 
@@ -117,46 +117,46 @@ first_cons b [] = ([], [], refl)
 first_cons b (p ∷ ps) = (p, ps, refl)
 
 abbrev join_n : List ℕ → Option (List ℕ) → Option (List ℕ)
-join_n ns none = none
-join_n ns (some ms) = some (ns ++ ms)
+join_n ns None = None
+join_n ns (Some ms) = Some (ns ++ ms)
 
-join_snoc : (ns : List ℕ) (v : ℕ) (m : Option (List ℕ)) → join_n (ns ++ (v ∷ [])) m ≡ join_n ns (cons_number (some v) m)
-join_snoc ns v none = refl
-join_snoc ns v (some ms) = ap {B = Option (List ℕ)} some (append_assoc ns (v ∷ []) ms)
+join_snoc : (ns : List ℕ) (v : ℕ) (m : Option (List ℕ)) → join_n (ns ++ (v ∷ [])) m ≡ join_n ns (cons_number (Some v) m)
+join_snoc ns v None = refl
+join_snoc ns v (Some ms) = ap {B = Option (List ℕ)} Some (append_assoc ns (v ∷ []) ms)
 
 -- a field that is no number leaves none
-first_none : (ds : List ℕ) (b : ℕ) (ps : List (List ℕ)) → ((p : List ℕ) → number_of (ds ++ (b ∷ p)) ≡ none)
-    → all_numbers (on_all ds (on_first b ps)) ≡ none
+first_none : (ds : List ℕ) (b : ℕ) (ps : List (List ℕ)) → ((p : List ℕ) → number_of (ds ++ (b ∷ p)) ≡ None)
+    → all_numbers (on_all ds (on_first b ps)) ≡ None
 first_none ds b ps h =
     let f = first_cons b ps in
     rw (f.2, all_cons ds (b ∷ f.0) f.1, h f.0)
 
-pub first_bad : (ds : List ℕ) (b : ℕ) (ps : List (List ℕ)) → is_digit b ≡ false → all_numbers (on_all ds (on_first b ps)) ≡ none
+pub first_bad : (ds : List ℕ) (b : ℕ) (ps : List (List ℕ)) → is_digit b ≡ false → all_numbers (on_all ds (on_first b ps)) ≡ None
 first_bad ds b ps t = first_none ds b ps (λ p. no_digits _ (all_bad ds b p t))
 
-number_is : (ds : List ℕ) (s : Bool) (v : ℕ) → State ds s v → number_of ds ≡ cond s (some v) none
+number_is : (ds : List ℕ) (s : Bool) (v : ℕ) → State ds s v → number_of ds ≡ cond s (Some v) None
 unfolding number_of
 number_is ds s v fresh = refl
 number_is ds s v lone = refl
 number_is ds s v (more d es w z a e p h) = number_good d es w z a e h
 
 -- the fields' end
-end_with : (ns : List ℕ) (s : Bool) (v : ℕ) → cond s (some (ns ++ (v ∷ []))) none ≡ join_n ns (cons_number (cond s (some v) none) (some []))
+end_with : (ns : List ℕ) (s : Bool) (v : ℕ) → cond s (Some (ns ++ (v ∷ []))) None ≡ join_n ns (cons_number (cond s (Some v) None) (Some []))
 end_with ns true v = refl
 end_with ns false v = refl
 
 end_is : (ns ds : List ℕ) (s : Bool) (v : ℕ) → State ds s v
-    → cond s (some (ns ++ (v ∷ []))) none ≡ join_n ns (all_numbers (on_all ds ([] ∷ [])))
+    → cond s (Some (ns ++ (v ∷ []))) None ≡ join_n ns (all_numbers (on_all ds ([] ∷ [])))
 end_is ns ds s v st = rw (all_cons ds [] [], append-nil ds, number_is ds s v st) (end_with ns s v)
 
 -- a comma
 comma_with : (ns : List ℕ) (s : Bool) (v : ℕ) (r m : Option (List ℕ)) → r ≡ join_n (ns ++ (v ∷ [])) m
-    → cond s r none ≡ join_n ns (cons_number (cond s (some v) none) m)
+    → cond s r None ≡ join_n ns (cons_number (cond s (Some v) None) m)
 comma_with ns true v r m q = q ∙ join_snoc ns v m
 comma_with ns false v r m q = refl
 
 comma_is : (ns ds : List ℕ) (s : Bool) (v : ℕ) (r : Option (List ℕ)) (ps : List (List ℕ)) → State ds s v
-    → r ≡ join_n (ns ++ (v ∷ [])) (all_numbers ps) → cond s r none ≡ join_n ns (all_numbers (on_all ds ([] ∷ ps)))
+    → r ≡ join_n (ns ++ (v ∷ [])) (all_numbers ps) → cond s r None ≡ join_n ns (all_numbers (on_all ds ([] ∷ ps)))
 comma_is ns ds s v r ps st q = rw (all_cons ds [] ps, append-nil ds, number_is ds s v st) (comma_with ns s v r (all_numbers ps) q)
 
 -- a digit
@@ -227,8 +227,8 @@ scan_is (b ∷ bs) ns ds s v st =
 
 -- the whole line
 join_none : (m : Option (List ℕ)) → join_n [] m ≡ m
-join_none none = refl
-join_none (some ms) = refl
+join_none None = refl
+join_none (Some ms) = refl
 
 pub scan_line : (bs : List ℕ) → all_numbers (parts_of (field_bytes bs)) ≡ scan bs [] false 0
 scan_line bs = sym (scan_is bs [] [] false 0 fresh ∙ join_none _)
@@ -236,10 +236,10 @@ scan_line bs = sym (scan_is bs [] [] false 0 fresh ∙ join_none _)
 -- ---- more than eight numbers are refused
 
 abbrev pub no_fields : ℕ → Fields
-no_fields stop = with_numbers stop none
+no_fields stop = with_numbers stop None
 
 long_cond : (stop : ℕ) (s : Bool) (r : Option (List ℕ)) → with_numbers stop r ≡ no_fields stop
-    → with_numbers stop (cond s r none) ≡ no_fields stop
+    → with_numbers stop (cond s r None) ≡ no_fields stop
 long_cond stop true r e = e
 long_cond stop false r e = refl
 
@@ -249,7 +249,7 @@ long_digit stop (Value w) k m e f = e w
 long_digit stop End k m e f = f
 long_digit stop Bad k m e f = refl
 
-long_end : (stop : ℕ) (ns : List ℕ) (v : ℕ) → 8 ≤ length ns → with_numbers stop (some (ns ++ (v ∷ []))) ≡ no_fields stop
+long_end : (stop : ℕ) (ns : List ℕ) (v : ℕ) → 8 ≤ length ns → with_numbers stop (Some (ns ++ (v ∷ []))) ≡ no_fields stop
 long_end stop ns v h = rw (lt-leb (length (ns ++ (v ∷ []))) 8 (omega (arith, length-append ns (v ∷ []))))
 
 long : (stop : ℕ) (bs ns : List ℕ) (s : Bool) (v : ℕ) → 8 < length ns → with_numbers stop (scan bs ns s v) ≡ no_fields stop
@@ -366,7 +366,7 @@ module _ (l : List ℕ) (i : ℕ) (ns : List ℕ) where
       let h = first_in l i w e in
       digit_step l i ns false 0 h w (sym (first_is l i h) ∙ e)
 
-  pub no_first : ((k : ℕ → Option (List ℕ)) → on_step (first_step l i) k none ≡ none) → rest l i ns false 0 ≡ no_fields (fields_end l i)
+  pub no_first : ((k : ℕ → Option (List ℕ)) → on_step (first_step l i) k None ≡ None) → rest l i ns false 0 ≡ no_fields (fields_end l i)
   no_first e =
       by_order
       i
@@ -387,7 +387,7 @@ module _ (l : List ℕ) (i : ℕ) (ns : List ℕ) (v : ℕ) where
       let h : i < length l = comma_in l i e in
       rw (end_comma l i e, add-one i, drop-cons l i 0 h, c)
 
-  pub last_field : Ends l i → comma_at l i ≡ false → rest l i ns true v ≡ with_numbers i (some (ns ++ (v ∷ [])))
+  pub last_field : Ends l i → comma_at l i ≡ false → rest l i ns true v ≡ with_numbers i (Some (ns ++ (v ∷ [])))
   last_field (inl h) e = rw (end_stop l i (inl h) e, drop_of_length-le l {i = i} h)
   last_field (inr h) e =
       let c : eqb (get_or l i 0) 44 ≡ false = comma_not l i h.0 e in
@@ -418,7 +418,7 @@ module _ (vs : List ℕ) (count v : ℕ) (room : count < 8) (eight : length vs �
   stored_front = rw add-one (take-suc-set vs count v (omega (arith, eight)))
 
   pub stored_fields : (stop : ℕ)
-      → ◌≡◌ {A = Fields} (record { count = count + 1; values = set vs count v; stop = stop }) (with_numbers stop (some (take count vs ++ (v ∷ []))))
+      → ◌≡◌ {A = Fields} (record { count = count + 1; values = set vs count v; stop = stop }) (with_numbers stop (Some (take count vs ++ (v ∷ []))))
   stored_fields stop =
       let t = take count vs ++ (v ∷ []) in
       let l : length t ≡ count + 1 = length-append (take count vs) (v ∷ []) ∙ ap (λ (k : ℕ). k + 1) (length-take-le count vs (omega (arith, eight))) in

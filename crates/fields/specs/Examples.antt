@@ -1,6 +1,5 @@
 -- Bytes, and what they are by the form of a line: borders of a digit, a number and a line, worked by hand.
-use Rattle.std.specs.Prelude.{ℕ, zero, suc, Bool, true, false, List, [], ◌∷◌, replicate}
-use Rattle.std.proofs.Math.Option.{Option, some, none}
+use Rattle.std.specs.Prelude.{ℕ, zero, suc, Bool, true, false, List, [], ◌∷◌, replicate, Some, None, Option}
 use Rattle.fields.specs.declared.Fields.{Fields}
 use Rattle.fields.specs.declared.FieldStep.{FieldStep}
 use Rattle.fields.specs.declared.FieldStep.TheVariants.{Value, End, Bad}
@@ -26,46 +25,46 @@ bytes_told =
 -- the bytes of a field, and the number that it is
 unfoldable pub field_numbers : List (List ℕ × Option ℕ)
 field_numbers =
-    ([], none)  -- an empty field
-    ∷ ((48 ∷ []), some 0)  -- 0
-    ∷ ((53 ∷ []), some 5)  -- 5
-    ∷ ((57 ∷ []), some 9)  -- 9
-    ∷ ((47 ∷ []), none)  -- /
-    ∷ ((58 ∷ []), none)  -- :
-    ∷ ((49 ∷ 48 ∷ []), some 10)  -- 10
-    ∷ ((48 ∷ 48 ∷ []), none)  -- 00
-    ∷ ((48 ∷ 49 ∷ []), none)  -- 01
-    ∷ ((49 ∷ 47 ∷ []), none)  -- 1/
-    ∷ ((49 ∷ 58 ∷ []), none)  -- 1:
-    ∷ ((47 ∷ 49 ∷ []), none)  -- /1
-    ∷ ((58 ∷ 49 ∷ []), none)  -- :1
-    ∷ ((49 ∷ 43 ∷ 50 ∷ []), none)  -- 1+2
-    ∷ ((45 ∷ 49 ∷ []), none)  -- -1
-    ∷ ((49 ∷ 50 ∷ 51 ∷ 52 ∷ 53 ∷ 54 ∷ 55 ∷ 56 ∷ 57 ∷ 48 ∷ []), some 1234567890)  -- 1234567890
-    ∷ ((52 ∷ 50 ∷ 57 ∷ 52 ∷ 57 ∷ 54 ∷ 55 ∷ 50 ∷ 57 ∷ 52 ∷ []), some 4294967294)  -- 4294967294
-    ∷ ((52 ∷ 50 ∷ 57 ∷ 52 ∷ 57 ∷ 54 ∷ 55 ∷ 50 ∷ 57 ∷ 53 ∷ []), some 4294967295)  -- 4294967295
-    ∷ ((52 ∷ 50 ∷ 57 ∷ 52 ∷ 57 ∷ 54 ∷ 55 ∷ 50 ∷ 57 ∷ 54 ∷ []), none)  -- 4294967296
-    ∷ ((57 ∷ 57 ∷ 57 ∷ 57 ∷ 57 ∷ 57 ∷ 57 ∷ 57 ∷ 57 ∷ 57 ∷ []), none)  -- 9999999999
-    ∷ ((49 ∷ 48 ∷ 48 ∷ 48 ∷ 48 ∷ 48 ∷ 48 ∷ 48 ∷ 48 ∷ 48 ∷ 48 ∷ []), none)  -- 10000000000
-    ∷ ((48 ∷ 52 ∷ 50 ∷ 57 ∷ 52 ∷ 57 ∷ 54 ∷ 55 ∷ 50 ∷ 57 ∷ 53 ∷ []), none)  -- 04294967295
+    ([], None)  -- an empty field
+    ∷ ((48 ∷ []), Some 0)  -- 0
+    ∷ ((53 ∷ []), Some 5)  -- 5
+    ∷ ((57 ∷ []), Some 9)  -- 9
+    ∷ ((47 ∷ []), None)  -- /
+    ∷ ((58 ∷ []), None)  -- :
+    ∷ ((49 ∷ 48 ∷ []), Some 10)  -- 10
+    ∷ ((48 ∷ 48 ∷ []), None)  -- 00
+    ∷ ((48 ∷ 49 ∷ []), None)  -- 01
+    ∷ ((49 ∷ 47 ∷ []), None)  -- 1/
+    ∷ ((49 ∷ 58 ∷ []), None)  -- 1:
+    ∷ ((47 ∷ 49 ∷ []), None)  -- /1
+    ∷ ((58 ∷ 49 ∷ []), None)  -- :1
+    ∷ ((49 ∷ 43 ∷ 50 ∷ []), None)  -- 1+2
+    ∷ ((45 ∷ 49 ∷ []), None)  -- -1
+    ∷ ((49 ∷ 50 ∷ 51 ∷ 52 ∷ 53 ∷ 54 ∷ 55 ∷ 56 ∷ 57 ∷ 48 ∷ []), Some 1234567890)  -- 1234567890
+    ∷ ((52 ∷ 50 ∷ 57 ∷ 52 ∷ 57 ∷ 54 ∷ 55 ∷ 50 ∷ 57 ∷ 52 ∷ []), Some 4294967294)  -- 4294967294
+    ∷ ((52 ∷ 50 ∷ 57 ∷ 52 ∷ 57 ∷ 54 ∷ 55 ∷ 50 ∷ 57 ∷ 53 ∷ []), Some 4294967295)  -- 4294967295
+    ∷ ((52 ∷ 50 ∷ 57 ∷ 52 ∷ 57 ∷ 54 ∷ 55 ∷ 50 ∷ 57 ∷ 54 ∷ []), None)  -- 4294967296
+    ∷ ((57 ∷ 57 ∷ 57 ∷ 57 ∷ 57 ∷ 57 ∷ 57 ∷ 57 ∷ 57 ∷ 57 ∷ []), None)  -- 9999999999
+    ∷ ((49 ∷ 48 ∷ 48 ∷ 48 ∷ 48 ∷ 48 ∷ 48 ∷ 48 ∷ 48 ∷ 48 ∷ 48 ∷ []), None)  -- 10000000000
+    ∷ ((48 ∷ 52 ∷ 50 ∷ 57 ∷ 52 ∷ 57 ∷ 54 ∷ 55 ∷ 50 ∷ 57 ∷ 53 ∷ []), None)  -- 04294967295
     ∷ []
 
 -- a line, and its numbers
 unfoldable pub line_numbers_read : List (List ℕ × Option (List ℕ))
 line_numbers_read =
-    ([], none)  -- an empty line
-    ∷ ((55 ∷ []), some (7 ∷ []))  -- 7
-    ∷ ((55 ∷ 44 ∷ 49 ∷ 50 ∷ 44 ∷ 48 ∷ []), some (7 ∷ 12 ∷ 0 ∷ []))  -- 7,12,0
-    ∷ ((44 ∷ []), none)  -- ,
-    ∷ ((55 ∷ 44 ∷ []), none)  -- 7,
-    ∷ ((44 ∷ 55 ∷ []), none)  -- ,7
-    ∷ ((55 ∷ 44 ∷ 44 ∷ 49 ∷ 50 ∷ []), none)  -- 7,,12
-    ∷ ((55 ∷ 43 ∷ 49 ∷ 50 ∷ []), none)  -- 7+12
-    ∷ ((55 ∷ 45 ∷ 49 ∷ 50 ∷ []), none)  -- 7-12
-    ∷ ((55 ∷ 59 ∷ 49 ∷ 50 ∷ []), none)  -- 7;12
-    ∷ ((55 ∷ 44 ∷ 48 ∷ 49 ∷ []), none)  -- 7,01
-    ∷ ((55 ∷ 44 ∷ 52 ∷ 50 ∷ 57 ∷ 52 ∷ 57 ∷ 54 ∷ 55 ∷ 50 ∷ 57 ∷ 54 ∷ []), none)  -- 7,4294967296
-    ∷ ((49 ∷ 44 ∷ 50 ∷ 44 ∷ 51 ∷ 44 ∷ 52 ∷ 44 ∷ 53 ∷ 44 ∷ 54 ∷ 44 ∷ 55 ∷ 44 ∷ 56 ∷ 44 ∷ 57 ∷ []), some (1 ∷ 2 ∷ 3 ∷ 4 ∷ 5 ∷ 6 ∷ 7 ∷ 8 ∷ 9 ∷ []))  -- 1,2,3,4,5,6,7,8,9
+    ([], None)  -- an empty line
+    ∷ ((55 ∷ []), Some (7 ∷ []))  -- 7
+    ∷ ((55 ∷ 44 ∷ 49 ∷ 50 ∷ 44 ∷ 48 ∷ []), Some (7 ∷ 12 ∷ 0 ∷ []))  -- 7,12,0
+    ∷ ((44 ∷ []), None)  -- ,
+    ∷ ((55 ∷ 44 ∷ []), None)  -- 7,
+    ∷ ((44 ∷ 55 ∷ []), None)  -- ,7
+    ∷ ((55 ∷ 44 ∷ 44 ∷ 49 ∷ 50 ∷ []), None)  -- 7,,12
+    ∷ ((55 ∷ 43 ∷ 49 ∷ 50 ∷ []), None)  -- 7+12
+    ∷ ((55 ∷ 45 ∷ 49 ∷ 50 ∷ []), None)  -- 7-12
+    ∷ ((55 ∷ 59 ∷ 49 ∷ 50 ∷ []), None)  -- 7;12
+    ∷ ((55 ∷ 44 ∷ 48 ∷ 49 ∷ []), None)  -- 7,01
+    ∷ ((55 ∷ 44 ∷ 52 ∷ 50 ∷ 57 ∷ 52 ∷ 57 ∷ 54 ∷ 55 ∷ 50 ∷ 57 ∷ 54 ∷ []), None)  -- 7,4294967296
+    ∷ ((49 ∷ 44 ∷ 50 ∷ 44 ∷ 51 ∷ 44 ∷ 52 ∷ 44 ∷ 53 ∷ 44 ∷ 54 ∷ 44 ∷ 55 ∷ 44 ∷ 56 ∷ 44 ∷ 57 ∷ []), Some (1 ∷ 2 ∷ 3 ∷ 4 ∷ 5 ∷ 6 ∷ 7 ∷ 8 ∷ 9 ∷ []))  -- 1,2,3,4,5,6,7,8,9
     ∷ []
 
 -- so many times a comma and 1
@@ -76,17 +75,17 @@ comma_ones (suc n) = 44 ∷ 49 ∷ comma_ones n
 -- lines of 79, 80, 81, 82 and 201 bytes, how many they are, and their numbers: "At most 80 bytes before byte 10"
 unfoldable pub long_lines : List (ℕ × List ℕ × Option (List ℕ))
 long_lines =
-    (79, 49 ∷ comma_ones 39, some (replicate 40 1))  -- 1,1,..,1
-    ∷ (80, 49 ∷ 50 ∷ comma_ones 39, some (12 ∷ replicate 39 1))  -- 12,1,..,1
-    ∷ (81, 49 ∷ comma_ones 40, none)  -- 1,1,..,1
-    ∷ (82, 49 ∷ 50 ∷ comma_ones 40, none)  -- 12,1,..,1
-    ∷ (201, 49 ∷ comma_ones 100, none)  -- 1,1,..,1
+    (79, 49 ∷ comma_ones 39, Some (replicate 40 1))  -- 1,1,..,1
+    ∷ (80, 49 ∷ 50 ∷ comma_ones 39, Some (12 ∷ replicate 39 1))  -- 12,1,..,1
+    ∷ (81, 49 ∷ comma_ones 40, None)  -- 1,1,..,1
+    ∷ (82, 49 ∷ 50 ∷ comma_ones 40, None)  -- 12,1,..,1
+    ∷ (201, 49 ∷ comma_ones 100, None)  -- 1,1,..,1
     -- and not of numbers
-    ∷ (79, replicate 79 49, none)  -- 11..1
-    ∷ (80, replicate 80 49, none)  -- 11..1
-    ∷ (81, replicate 81 49, none)  -- 11..1
-    ∷ (201, replicate 201 49, none)  -- 11..1
-    ∷ (80, comma_ones 40, none)  -- ,1,1,..,1
+    ∷ (79, replicate 79 49, None)  -- 11..1
+    ∷ (80, replicate 80 49, None)  -- 11..1
+    ∷ (81, replicate 81 49, None)  -- 11..1
+    ∷ (201, replicate 201 49, None)  -- 11..1
+    ∷ (80, comma_ones 40, None)  -- ,1,1,..,1
     ∷ []
 
 -- ---- the reader

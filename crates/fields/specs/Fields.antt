@@ -1,6 +1,5 @@
 -- What the field reader answers: the numbers from a place on, and where it stopped.
-use Rattle.std.specs.Prelude.{ℕ, ◌+◌, ◌*◌, ◌-◌, Bool, false, cond, ◌&&◌, ◌||◌, List, [], ◌∷◌, ◌++◌, length, drop, get_or, replicate, leb, ltb, eqb}
-use Rattle.std.proofs.Math.Option.{Option, some, none}
+use Rattle.std.specs.Prelude.{ℕ, ◌+◌, ◌*◌, ◌-◌, Bool, false, cond, ◌&&◌, ◌||◌, List, [], ◌∷◌, ◌++◌, length, drop, get_or, replicate, leb, ltb, eqb, Some, None, Option}
 use Rattle.units.specs.Counts.{largest}
 use Rattle.fields.specs.declared.Fields.{Fields}
 use Rattle.fields.specs.declared.FieldStep.{FieldStep}
@@ -25,8 +24,8 @@ most_numbers = 8
 
 -- numbers, where there are at most most_numbers: those that are not there are 0
 abbrev pub with_numbers : ℕ → Option (List ℕ) → Fields
-with_numbers stop none = record { count = 0; values = replicate most_numbers 0; stop = stop }
-with_numbers stop (some ns) =
+with_numbers stop None = record { count = 0; values = replicate most_numbers 0; stop = stop }
+with_numbers stop (Some ns) =
     cond (leb (length ns) most_numbers)
     (record { count = length ns; values = ns ++ replicate (most_numbers - length ns) 0; stop = stop })
     (record { count = 0; values = replicate most_numbers 0; stop = stop })

@@ -1,6 +1,5 @@
 -- Document 01's "Day lines": the form of a line, without its byte 10.
-use Rattle.std.specs.Prelude.{ℕ, ◌+◌, ◌*◌, ◌-◌, Bool, true, false, not, cond, ◌&&◌, List, [], ◌∷◌, length, leb, eqb}
-use Rattle.std.proofs.Math.Option.{Option, some, none}
+use Rattle.std.specs.Prelude.{ℕ, ◌+◌, ◌*◌, ◌-◌, Bool, true, false, not, cond, ◌&&◌, List, [], ◌∷◌, length, leb, eqb, Some, None, Option}
 use Rattle.units.specs.Counts.{largest}
 
 -- ---- a number
@@ -26,7 +25,7 @@ value_from n (d ∷ ds) = value_from (n * 10 + (d - 48)) ds
 
 -- the number that a field is, unless it is none or "a value above 4,294,967,295"
 unfoldable pub number_of : List ℕ → Option ℕ
-number_of ds = cond (is_number ds && leb (value_from 0 ds) largest) (some (value_from 0 ds)) none
+number_of ds = cond (is_number ds && leb (value_from 0 ds) largest) (Some (value_from 0 ds)) None
 
 -- ---- a line: "the kind, then that kind's fields, parted by commas"
 
@@ -42,13 +41,13 @@ parts_of (b ∷ bs) = cond (eqb b 44) ([] ∷ parts_of bs) (on_first b (parts_of
 
 -- a number before numbers, where all are
 abbrev pub cons_number : Option ℕ → Option (List ℕ) → Option (List ℕ)
-cons_number none m = none
-cons_number (some n) none = none
-cons_number (some n) (some ns) = some (n ∷ ns)
+cons_number None m = None
+cons_number (Some n) None = None
+cons_number (Some n) (Some ns) = Some (n ∷ ns)
 
 -- the numbers of all parts, where each is one
 abbrev pub all_numbers : List (List ℕ) → Option (List ℕ)
-all_numbers [] = some []
+all_numbers [] = Some []
 all_numbers (p ∷ ps) = cons_number (number_of p) (all_numbers ps)
 
 -- "At most 80 bytes before byte 10; a longer line is one line and gets 20"
@@ -57,4 +56,4 @@ longest_line = 80
 
 -- the numbers of a line, where it is of this form
 unfoldable pub line_numbers : List ℕ → Option (List ℕ)
-line_numbers line = cond (leb (length line) longest_line) (all_numbers (parts_of line)) none
+line_numbers line = cond (leb (length line) longest_line) (all_numbers (parts_of line)) None

@@ -1,9 +1,8 @@
 -- Laws of call lines: the call of a kind and its fields, and a line between two places of an input.
-use Rattle.std.specs.Prelude.{Some, None}
+use Rattle.std.specs.Prelude.{Some, None, Option}
 use mathlib.Core.Path.{◌≡◌, refl, sym, ap, ◌∙◌}
 use mathlib.Core.Bool.{Bool, true, false, cond}
 use mathlib.Core.List.{List, [], ◌∷◌, ◌++◌}
-use mathlib.Core.Option.{Option, some, none}
 use Prim.Native.Nat.{ℕ, zero, suc, ◌+◌, ◌-◌, ◌≤◌, ◌<◌}
 use native.Mathlib.Numerals.{add-one}
 use native.Mathlib.Omega.{arith}
@@ -119,8 +118,8 @@ no_many (a ∷ (b ∷ (c ∷ (d ∷ (e ∷ (f ∷ (g ∷ (h ∷ l)))))))) q = no
 
 -- the call of the field reader's numbers
 call_numbers_lem : (stop : ℕ) (m : Option (List ℕ)) → call_of (take (with_numbers stop m).count (with_numbers stop m).values) ≡ call_of_numbers m
-call_numbers_lem stop none = refl
-call_numbers_lem stop (some ns) =
+call_numbers_lem stop None = refl
+call_numbers_lem stop (Some ns) =
     by_test (leb (length ns) 8)
     (λ e. ap call_of (numbers_in stop ns (leb-true _ _ e)))
     (λ e. ap call_of (numbers_many stop ns (leb-false _ _ e)) ∙ no_many ns (leb-false _ _ e))
@@ -189,7 +188,7 @@ stops_none : (l : List ℕ) → length (field_bytes l) < length l → None ≡ r
 unfolding reading_of line_numbers
 stops_none l h = rw (stops_short l h) (sym (no_numbers (leb (length l) longest_line)))
   where
-    no_numbers : (t : Bool) → call_of_numbers (cond t none none) ≡ None
+    no_numbers : (t : Bool) → call_of_numbers (cond t None None) ≡ None
     no_numbers true = refl
     no_numbers false = refl
 

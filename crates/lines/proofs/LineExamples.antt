@@ -1,8 +1,7 @@
 -- Lines read and written, computed.
-use Rattle.std.specs.Prelude.{Ok, Err, Some, None}
+use Rattle.std.specs.Prelude.{Ok, Err, Some, None, Option}
 use mathlib.Core.Path.{◌≡◌, refl}
 use mathlib.Core.List.{List, [], ◌∷◌, ◌++◌, map}
-use mathlib.Core.Option.{Option, some}
 use Prim.Native.Nat.{ℕ}
 use lib.ListN.{length}
 use Rattle.units.specs.Decimal.{digits}
@@ -44,7 +43,7 @@ unfolding line_computes call_lines
 calls_coded = refl
 
 -- of any other numbers it is 20
-pub no_calls_lem : map {B = (Option Call) × ℕ × List ℕ × ℕ} (λ (ns : List ℕ). (call_of ns, reading_code (call_of ns), reading_values (call_of ns), code_in (some ns))) no_calls
+pub no_calls_lem : map {B = (Option Call) × ℕ × List ℕ × ℕ} (λ (ns : List ℕ). (call_of ns, reading_code (call_of ns), reading_values (call_of ns), code_in (Some ns))) no_calls
     ≡ map {B = (Option Call) × ℕ × List ℕ × ℕ} (λ (ns : List ℕ). (None, 20, [], 20)) no_calls
 unfolding of_kind no_calls
 no_calls_lem = refl

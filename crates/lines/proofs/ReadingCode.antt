@@ -1,9 +1,8 @@
 -- The code and the values of what is read of a line are those of its bytes.
-use Rattle.std.specs.Prelude.{Some, None}
+use Rattle.std.specs.Prelude.{Some, None, Option}
 use mathlib.Core.Path.{◌≡◌, refl, sym, ap, ◌∙◌, subst}
 use mathlib.Core.Bool.{Bool, true, false, cond}
 use mathlib.Core.List.{List, [], ◌∷◌}
-use mathlib.Core.Option.{Option, some, none}
 use Prim.Native.Nat.{ℕ, zero, suc}
 use native.Mathlib.Omega.{arith}
 use lib.ListN.{length, drop}
@@ -13,13 +12,13 @@ use Rattle.model.specs.declared.call.Call.{Call}
 use Rattle.model.specs.Kinds.{Kind, Taking, from_fields, kinds}
 use Rattle.fields.specs.Grammar.{line_numbers}
 use Rattle.lines.specs.declared.call.LineAt.{LineAt}
-use Rattle.lines.specs.CallLines.{reading, read_in, of_kind, call_of, call_of_numbers, reading_of, line_in, line_at}
+use Rattle.lines.specs.CallLines.{read_in, of_kind, call_of, call_of_numbers, reading_of, line_in, line_at}
 use Rattle.lines.specs.ReadingCode.{reading_code, reading_values, has_kind, is_call, code_in, values_in, line_code, line_values, Tells, ReadingsTell}
 use Rattle.lines.proofs.RoundTrip.{numbers_call}
 
 -- ---- the code
 
-fields_code : (n : ℕ) (f : Taking n) (fields : List ℕ) → reading_code (reading (from_fields n f fields)) ≡ cond (eqb (length fields) n) 0 20
+fields_code : (n : ℕ) (f : Taking n) (fields : List ℕ) → reading_code (from_fields n f fields) ≡ cond (eqb (length fields) n) 0 20
 fields_code zero c [] = refl
 fields_code zero c (a ∷ fields) = rw (eqb-suc-zero (length fields))
 fields_code (suc n) f [] = rw (eqb-zero-suc n)
@@ -52,8 +51,8 @@ numbers_values ns = by_code (call_of ns) (is_call ns) ns (numbers_code ns) (λ c
 -- ---- a line
 
 of_numbers : (m : Option (List ℕ)) → (reading_code (call_of_numbers m) ≡ code_in m) × (reading_values (call_of_numbers m) ≡ values_in m)
-of_numbers none = (refl, refl)
-of_numbers (some ns) = (numbers_code ns, numbers_values ns)
+of_numbers None = (refl, refl)
+of_numbers (Some ns) = (numbers_code ns, numbers_values ns)
 
 pub readings_tell : ReadingsTell
 unfolding reading_of line_code line_values

@@ -1,9 +1,8 @@
 -- A call written and read again is the same call, and a line that the reader accepts is the line that its call is written as.
-use Rattle.std.specs.Prelude.{Some, None}
+use Rattle.std.specs.Prelude.{Some, None, Option}
 use mathlib.Core.Path.{◌≡◌, refl, sym, ap, ◌∙◌, subst}
 use mathlib.Core.Bool.{Bool, true, false, ◌&&◌}
 use mathlib.Core.List.{List, [], ◌∷◌, ◌++◌, map, append_assoc, append-nil}
-use mathlib.Core.Option.{Option, some, none}
 use Prim.Native.Nat.{ℕ, zero, suc, ◌+◌, ◌-◌, ◌*◌, ◌/◌, ◌%◌, ◌≤◌, ◌<◌}
 use native.Mathlib.Omega.{arith}
 use native.Mathlib.Nat.{le_refl, not-suc-le-zero, lt_of_lt_of_le}
@@ -20,7 +19,7 @@ use Rattle.fields.proofs.LineLaws.{line_short}
 use Rattle.model.specs.declared.call.Call.{Call}
 use Rattle.model.specs.declared.call.Call.TheVariants.{Deposit, Withdraw, Order, Cancel, Open, Enter, Match, Bid, Settle, Claim, Leave}
 use Rattle.model.specs.Kinds.{Taking, Kind, from_fields, kinds, numbers_of_call}
-use Rattle.lines.specs.CallLines.{reading, read_in, of_kind, call_of, call_of_numbers, reading_of, line_in, line_at}
+use Rattle.lines.specs.CallLines.{read_in, of_kind, call_of, call_of_numbers, reading_of, line_in, line_at}
 use Rattle.lines.specs.CallText.{join_parts, line_of_numbers, line_of_call, Small, CallRound, LineRound}
 use Rattle.lines.proofs.CallLaws.{whole_line, ten_inside}
 use Rattle.decimal.proofs.Digits.{digits_bound, lead, lead_none, lead_step, digits_step}
@@ -29,10 +28,10 @@ and_left : (x y : Bool) → (x && y) ≡ true → x ≡ true
 and_left true y e = refl
 and_left false y e = e
 
-same : {A : Type 0} (a b : A) → ◌≡◌ {A = Option A} (some a) (some b) → b ≡ a
+same : {A : Type 0} (a b : A) → ◌≡◌ {A = Option A} (Some a) (Some b) → b ≡ a
 same a b p = cc
 
-differ : {A : Type 0} (a : A) → ◌≡◌ {A = Option A} none (some a) → ⊥
+differ : {A : Type 0} (a : A) → ◌≡◌ {A = Option A} None (Some a) → ⊥
 differ a p = let z : ◌≡◌ {A = ℕ} 0 1 = cc in omega arith
 
 -- ---- read, then written
@@ -100,7 +99,7 @@ number_text (d ∷ (g ∷ bs)) e =
     (λ t. absurd (false_not_true (rw t at e)))
     (λ t. written_plain d (g ∷ bs) (eqb-false d 48 t) (rw t at e))
 
-number_written : (f : List ℕ) (n : ℕ) → number_of f ≡ some n → digits n ≡ f
+number_written : (f : List ℕ) (n : ℕ) → number_of f ≡ Some n → digits n ≡ f
 unfolding number_of
 number_written f n e =
     by_test
@@ -108,11 +107,11 @@ number_written f n e =
     (λ t. ap digits (same (value_from 0 f) n (rw t at e)) ∙ number_text f (and_left _ _ t))
     (λ t. absurd (differ n (rw t at e)))
 
-by_option : {A P : Type 0} (o : Option A) → (o ≡ none → P) → ((a : A) → o ≡ some a → P) → P
-by_option none f g = f refl
-by_option (some a) f g = g a refl
+by_option : {A P : Type 0} (o : Option A) → (o ≡ None → P) → ((a : A) → o ≡ Some a → P) → P
+by_option None f g = f refl
+by_option (Some a) f g = g a refl
 
-numbers_written_lem : (ps : List (List ℕ)) (ns : List ℕ) → all_numbers ps ≡ some ns → map digits ns ≡ ps
+numbers_written_lem : (ps : List (List ℕ)) (ns : List ℕ) → all_numbers ps ≡ Some ns → map digits ns ≡ ps
 numbers_written_lem [] ns e = ap (map digits) (same [] ns e)
 numbers_written_lem (p ∷ ps) ns e =
     by_option (number_of p)
@@ -148,7 +147,7 @@ parts_line (b ∷ bs) =
     (λ e. rw e (join_first b (parts_of bs) ∙ ap (λ (l : List ℕ). b ∷ l) (parts_line bs)))
 
 -- a line that the reader accepts is the line of its numbers
-read_written : (line ns : List ℕ) → line_numbers line ≡ some ns → line_of_numbers ns ≡ line
+read_written : (line ns : List ℕ) → line_numbers line ≡ Some ns → line_of_numbers ns ≡ line
 unfolding line_numbers line_of_numbers
 read_written line ns e =
     by_test
@@ -194,17 +193,17 @@ lead_plain (suc f) m h p =
       value = omega arith;
     })
 
-zero_read : number_of (digits 0) ≡ some 0
+zero_read : number_of (digits 0) ≡ Some 0
 unfolding number_of digits
 zero_read = refl
 
-number_read : (n : ℕ) → n ≤ largest → number_of (digits n) ≡ some n
+number_read : (n : ℕ) → n ≤ largest → number_of (digits n) ≡ Some n
 number_read n h =
     by_order 0 n
     (λ p.
     let s : Plain n (lead n) = lead_plain n n (le_refl n) p in
     ap number_of (digits_lead n p ∙ s.is) ∙ number_good s.first s.others n s.not_zero s.all (sym s.value) h)
-    (λ q. subst (λ (k : ℕ). number_of (digits k) ≡ some k) (sym (le-zero q)) zero_read)
+    (λ q. subst (λ (k : ℕ). number_of (digits k) ≡ Some k) (sym (le-zero q)) zero_read)
 
 -- digits have no comma
 digits_all : (n : ℕ) → all_digits (digits n) ≡ true
@@ -228,7 +227,7 @@ parts_of_one : (ds : List ℕ) → all_digits ds ≡ true → parts_of ds ≡ ds
 parts_of_one [] a = refl
 parts_of_one (d ∷ ds) a = rw (no_comma d (both d ds a).0) (ap (on_first d) (parts_of_one ds (both d ds a).1))
 
-numbers_read : (n : ℕ) (ns : List ℕ) → Small (n ∷ ns) → all_numbers (parts_of (join_parts (map digits (n ∷ ns)))) ≡ some (n ∷ ns)
+numbers_read : (n : ℕ) (ns : List ℕ) → Small (n ∷ ns) → all_numbers (parts_of (join_parts (map digits (n ∷ ns)))) ≡ Some (n ∷ ns)
 numbers_read n [] s = rw (parts_of_one (digits n) (digits_all n), number_read n s.0)
 numbers_read n (m ∷ ns) s =
     rw (parts_of_more (digits n) (join_parts (map digits (m ∷ ns))) (digits_all n), number_read n s.0, numbers_read m ns s.1)
@@ -241,7 +240,7 @@ numbers_length n (m ∷ ns) s =
     (arith, digits_bound m (omega (arith, s.0)), numbers_length m ns s.1, length-append (digits n) (44 ∷ join_parts (map digits (m ∷ ns))))
 
 -- what the writer makes of numbers reads as those numbers
-numbers_reread : (n : ℕ) (ns : List ℕ) → Small (n ∷ ns) → length ns ≤ 6 → line_numbers (line_of_numbers (n ∷ ns)) ≡ some (n ∷ ns)
+numbers_reread : (n : ℕ) (ns : List ℕ) → Small (n ∷ ns) → length ns ≤ 6 → line_numbers (line_of_numbers (n ∷ ns)) ≡ Some (n ∷ ns)
 unfolding line_of_numbers
 numbers_reread n ns s h = line_short _ (omega (arith, digits_bound n (omega (arith, s.0)), numbers_length n ns s.1)) ∙ numbers_read n ns s
 
@@ -295,7 +294,7 @@ abbrev Writes : (n : ℕ) → Taking n → List ℕ → Type 0
 Writes zero c ns = numbers_of_call c ≡ ns
 Writes (suc n) f ns = (a : ℕ) → Writes n (f a) (ns ++ (a ∷ []))
 
-fields_written : (n : ℕ) (f : Taking n) (ns : List ℕ) → Writes n f ns → (fields : List ℕ) (c : Call) → reading (from_fields n f fields) ≡ Some c → numbers_of_call c ≡ ns ++ fields
+fields_written : (n : ℕ) (f : Taking n) (ns : List ℕ) → Writes n f ns → (fields : List ℕ) (c : Call) → from_fields n f fields ≡ Some c → numbers_of_call c ≡ ns ++ fields
 fields_written zero d ns w [] c e = let same : c ≡ d = cc in ap numbers_of_call same ∙ w ∙ sym (append-nil ns)
 fields_written zero d ns w (a ∷ fields) c e = absurd (no_read c e)
 fields_written (suc n) f ns w [] c e = absurd (no_read c e)

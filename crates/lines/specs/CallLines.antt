@@ -1,6 +1,5 @@
 -- The call that a line is, "by kind number and fields", or none; and the line at a place of an input.
 use Rattle.std.specs.Prelude.{ℕ, ◌+◌, cond, List, [], ◌∷◌, length, drop, eqb, Some, None, Option}
-use Rattle.std.proofs.Math.Option.{Option, some, none}
 use Rattle.model.specs.declared.call.Call.{Call}
 use Rattle.model.specs.Kinds.{Kind, from_fields, kinds}
 use Rattle.lines.specs.declared.call.LineAt.{LineAt}
@@ -8,14 +7,10 @@ use Rattle.fields.specs.Grammar.{line_numbers}
 
 -- ---- by kind number
 
-abbrev pub reading : Option Call → Option Call
-reading none = None
-reading (some c) = Some c
-
 -- the call of the kind with this number
 abbrev pub read_in : List Kind → ℕ → List ℕ → Option Call
 read_in [] number fields = None
-read_in (k ∷ ks) number fields = cond (eqb number k.number) (reading (from_fields k.fields k.call fields)) (read_in ks number fields)
+read_in (k ∷ ks) number fields = cond (eqb number k.number) (from_fields k.fields k.call fields) (read_in ks number fields)
 
 -- "An empty line, an unknown kind, a wrong number of fields or a value above 4,294,967,295 gets 20": here an unknown kind and a wrong number
 -- of fields do
@@ -29,8 +24,8 @@ call_of (kind ∷ fields) = of_kind kind fields
 
 -- a line whose parts are not all numbers has none: so has "An empty line", whose one part is empty, and one with "a value above 4,294,967,295"
 abbrev pub call_of_numbers : Option (List ℕ) → Option Call
-call_of_numbers none = None
-call_of_numbers (some ns) = call_of ns
+call_of_numbers None = None
+call_of_numbers (Some ns) = call_of ns
 
 -- a line without its byte 10: 20's "line not of the form below. It is then no call"
 unfoldable pub reading_of : List ℕ → Option Call

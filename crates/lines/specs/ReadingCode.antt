@@ -1,7 +1,6 @@
 -- What a reading tells, in the paper's numbers. "Any answer that is an enum has a definition. The definition gives this paper's number and values
 -- for each of the enum's cases, and the promises use it."
 use Rattle.std.specs.Prelude.{ℕ, ◌≡◌, Bool, false, cond, List, [], ◌∷◌, length, eqb, Some, None, Option}
-use Rattle.std.proofs.Math.Option.{Option, some, none}
 use Rattle.model.specs.declared.call.Call.{Call}
 use Rattle.model.specs.Kinds.{Kind, kinds, numbers_of_call}
 use Rattle.fields.specs.Grammar.{line_numbers}
@@ -28,12 +27,12 @@ is_call [] = false
 is_call (number ∷ fields) = has_kind kinds number (length fields)
 
 abbrev pub code_in : Option (List ℕ) → ℕ
-code_in none = 20
-code_in (some ns) = cond (is_call ns) 0 20
+code_in None = 20
+code_in (Some ns) = cond (is_call ns) 0 20
 
 abbrev pub values_in : Option (List ℕ) → List ℕ
-values_in none = []
-values_in (some ns) = cond (is_call ns) ns []
+values_in None = []
+values_in (Some ns) = cond (is_call ns) ns []
 
 -- 20: "line not of the form below"
 unfoldable pub line_code : List ℕ → ℕ

@@ -1,6 +1,5 @@
 -- "The ten calls, by kind number and fields", and kind 11 of document 02: one row a kind, and the numbers of a call.
-use Rattle.std.specs.Prelude.{ℕ, zero, suc, cond, List, [], ◌∷◌, eqb, get_or}
-use Rattle.std.proofs.Math.Option.{Option, some, none}
+use Rattle.std.specs.Prelude.{ℕ, zero, suc, cond, List, [], ◌∷◌, eqb, get_or, Some, None, Option}
 use Rattle.model.specs.declared.call.Call.{Call}
 use Rattle.model.specs.declared.call.Call.TheVariants.{Deposit, Withdraw, Order, Cancel, Open, Enter, Match, Bid, Settle, Claim, Leave}
 
@@ -11,9 +10,9 @@ Taking (suc n) = ℕ → Taking n
 
 -- the call of so many fields, no more and no fewer
 abbrev pub from_fields : (n : ℕ) → Taking n → List ℕ → Option Call
-from_fields zero c [] = some c
-from_fields zero c (a ∷ fields) = none
-from_fields (suc n) f [] = none
+from_fields zero c [] = Some c
+from_fields zero c (a ∷ fields) = None
+from_fields (suc n) f [] = None
 from_fields (suc n) f (a ∷ fields) = from_fields n (f a) fields
 
 -- a kind: its number, how many fields it has, the call of them, and the codes that it tests

@@ -1,6 +1,5 @@
 -- What a line makes of the books, a ledger and one row apart from it, and what it answers: by how many numbers it has, and the first of them.
-use Rattle.std.specs.Prelude.{ℕ, cond, List, [], ◌∷◌, ◌++◌, eqb, Some, None, Option as Answer}
-use Rattle.std.proofs.Math.Option.{Option, some, none}
+use Rattle.std.specs.Prelude.{ℕ, cond, List, [], ◌∷◌, ◌++◌, eqb, Some, None, Option as Answer, Option}
 use Rattle.units.specs.Decimal.{digits}
 use Rattle.ledger.specs.Balances.{row_of, fresh_ledger}
 use Rattle.ledger.specs.Postings.{RowPosting, Posting, Entry, entry_code, entry_amount, balance_of, credit_of, debit_of, credit_row_of, debit_row_of}
@@ -49,13 +48,13 @@ three_of b kind m t n =
 
 -- a line by its numbers, none where it is not of the form
 abbrev pub posted_of : Books → Option (List ℕ) → Posted
-posted_of b none = no_line b
-posted_of b (some []) = no_line b
-posted_of b (some (kind ∷ [])) = alone_of b kind
-posted_of b (some (kind ∷ x ∷ [])) = no_line b
-posted_of b (some (kind ∷ x ∷ y ∷ [])) = two_of b kind x y
-posted_of b (some (kind ∷ x ∷ y ∷ z ∷ [])) = three_of b kind x y z
-posted_of b (some (kind ∷ x ∷ y ∷ z ∷ w ∷ ns)) = no_line b
+posted_of b None = no_line b
+posted_of b (Some []) = no_line b
+posted_of b (Some (kind ∷ [])) = alone_of b kind
+posted_of b (Some (kind ∷ x ∷ [])) = no_line b
+posted_of b (Some (kind ∷ x ∷ y ∷ [])) = two_of b kind x y
+posted_of b (Some (kind ∷ x ∷ y ∷ z ∷ [])) = three_of b kind x y z
+posted_of b (Some (kind ∷ x ∷ y ∷ z ∷ w ∷ ns)) = no_line b
 
 -- the numbers of an answer, none where the line is none of the six
 abbrev pub code_of : Answer Entry → ℕ

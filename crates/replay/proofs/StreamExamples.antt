@@ -1,7 +1,7 @@
 -- Streams of bytes, computed.
+use Rattle.std.specs.Prelude.{Option}
 use mathlib.Core.Path.{◌≡◌, refl}
 use mathlib.Core.List.{List, map}
-use mathlib.Core.Option.{Option}
 use Prim.Native.Nat.{ℕ}
 use Rattle.fields.specs.Examples.{long_lines}
 use Rattle.replay.specs.Pieces.{joined, stream_of}

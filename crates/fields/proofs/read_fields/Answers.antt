@@ -1,8 +1,8 @@
 -- `fields::read_fields` meets its contract.
+use Rattle.std.specs.Prelude.{None, Option}
 use mathlib.Core.Path.{◌≡◌, refl, sym, ◌∙◌}
 use mathlib.Core.Bool.{true, false}
 use mathlib.Core.Logic.{inl}
-use mathlib.Core.Option.{Option, none}
 use mathlib.Core.List.{List}
 use Prim.Native.Nat.{ℕ, ◌≤◌, ◌<◌}
 use native.Mathlib.Omega.{arith}
@@ -60,7 +60,7 @@ line-preserved c =
     )
 
 -- a first byte that is no digit
-no_value : (d : FieldStep) → ((w : ℕ) → d ≡ Value w → ⊥) → (k : ℕ → Option (List ℕ)) → on_step d k none ≡ none
+no_value : (d : FieldStep) → ((w : ℕ) → d ≡ Value w → ⊥) → (k : ℕ → Option (List ℕ)) → on_step d k None ≡ None
 no_value (Value w) n k = absurd (n w refl)
 no_value End n k = refl
 no_value Bad n k = refl
