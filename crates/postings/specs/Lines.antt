@@ -1,5 +1,5 @@
 -- What a line makes of the books, a ledger and one row apart from it, and what it answers: by how many numbers it has, and the first of them.
-use Rattle.std.specs.Prelude.{ℕ, cond, List, [], ◌∷◌, ◌++◌, eqb, Some, None, Option as Answer, Option}
+use Rattle.std.specs.Prelude.{ℕ, cond, List, [], ◌∷◌, ◌++◌, eqb, Some, None, Option}
 use Rattle.units.specs.Decimal.{digits}
 use Rattle.ledger.specs.Balances.{row_of, fresh_ledger}
 use Rattle.ledger.specs.Postings.{RowPosting, Posting, Entry, entry_code, entry_amount, balance_of, credit_of, debit_of, credit_row_of, debit_row_of}
@@ -57,15 +57,15 @@ posted_of b (Some (kind ∷ x ∷ y ∷ z ∷ [])) = three_of b kind x y z
 posted_of b (Some (kind ∷ x ∷ y ∷ z ∷ w ∷ ns)) = no_line b
 
 -- the numbers of an answer, none where the line is none of the six
-abbrev pub code_of : Answer Entry → ℕ
+abbrev pub code_of : Option Entry → ℕ
 code_of None = 20
 code_of (Some e) = entry_code e
 
-abbrev pub amount_of : Answer Entry → ℕ
+abbrev pub amount_of : Option Entry → ℕ
 amount_of None = 0
 amount_of (Some e) = entry_amount e
 
-abbrev pub answered : Answer Entry → Books → Posted
+abbrev pub answered : Option Entry → Books → Posted
 answered posted b = record { code = code_of posted; amount = amount_of posted; books = b }
 
 -- number, code and amount, parted by commas, and byte 10

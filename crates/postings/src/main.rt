@@ -11,8 +11,7 @@
 // than 80 bytes or no numbers, answers 20 and 0. A refusal leaves the books.
 #![tactic(auto)]
 
-ghost use Rattle.std.specs.Prelude.{◌≡◌, ◌≤◌, length};
-ghost use Rattle.std.proofs.Math.Option.{some};
+ghost use Rattle.std.specs.Prelude.{◌≡◌, ◌≤◌, length, Some};
 ghost use Rattle.decimal.specs.Buffer.{put_at};
 ghost use Rattle.fields.specs.Grammar.{line_numbers};
 ghost use Rattle.postings.specs.Lines.{fresh_books, answered, posted_of, code_of, amount_of, posted_text};
@@ -56,7 +55,7 @@ impl Books {
     // The numbers of a line. None where they are none of the six.
     #[tactic(auto, unfolding(crate::specs::Lines::alone_of, crate::specs::Lines::two_of, crate::specs::Lines::three_of))]
     fn post_numbers(&mut self, numbers: &[u32]) -> Option<Entry>
-        ensures { answered result self.new ≡ posted_of self.old (some numbers.now) }
+        ensures { answered result self.new ≡ posted_of self.old (Some numbers.now) }
     {
         match numbers {
             [1, member, token, amount] => {
