@@ -1,4 +1,4 @@
--- A line that lies whole in the input, read, worked and answered: what the turn takes, and what it writes.
+-- A line that lies whole in the input, read, done and answered: what the turn takes, and what it writes.
 use mathlib.Core.Path.{◌≡◌, sym, ap, ◌∙◌, subst}
 use mathlib.Core.List.{List, []}
 use Prim.Native.Nat.{ℕ, ◌+◌, ◌-◌, ◌≤◌, ◌<◌}
@@ -13,15 +13,12 @@ use Rattle.model.specs.Answers.{answer_line}
 use Rattle.lines.specs.AnswerText.{longest_answer}
 use Rattle.lines.specs.CallLines.{line_at, line_in}
 use Rattle.lines.specs.declared.call.LineAt.{LineAt}
-use Rattle.replay.specs.Lines.{line_outcome, line_text}
+use Rattle.replay.specs.Lines.{line_outcome, line_text, outcome_of}
 use Rattle.replay.proofs.LineRun.{line_outcome_is, reachable_line, text_is}
 use Rattle.replay.proofs.StreamLaws.{begun, line_end_is, line_read_is}
 use Rattle.replay.proofs.FeedLaws.{SoFar, so_far_line}
 use Rattle.replay.specs.Days.{last_line}
 use Rattle.replay.specs.Pieces.{Stream}
-use Rattle.work.specs.Work.{work_done}
-use Rattle.in_place.specs.Readings.{work_in}
-use Rattle.in_place.proofs.Held.{work_outcome}
 use Rattle.in_place.proofs.Turn.{line_whole, one_more, part_count, room_for, turn_less}
 
 -- the line read at i, which ends before the input does
@@ -42,11 +39,11 @@ module _ (input : List ℕ) (i : ℕ) (l : LineAt) (read : l ≡ line_at input i
     pub left_less : length input - (l.end + 1) < length input - i
     left_less = turn_less input i l.end ends whole
 
-    -- its work done on the state x, and its answer written at a place of the buffer
-    module _ (x : Exchange) (h : Reachable x) (n at : ℕ) (out : List ℕ) (o : Outcome) (done : o ≡ work_done x (work_in l.reading))
+    -- done on the state x, and its answer written at a place of the buffer
+    module _ (x : Exchange) (h : Reachable x) (n at : ℕ) (out : List ℕ) (o : Outcome) (done : o ≡ outcome_of x l.reading)
         (fits : at ≤ length out) (left : longest_answer ≤ length out - at) (bound : length (answer_line (n + 1) o.answer) ≤ longest_answer) where
       is : o ≡ line_outcome x (line_in (drop i input))
-      is = line_outcome_is x (line_in (drop i input)) l.reading o (line_read_is l input i read) (done ∙ work_outcome x h l.reading)
+      is = line_outcome_is x (line_in (drop i input)) l.reading o (line_read_is l input i read) done
 
       text : List ℕ
       text = line_text x (n + 1) (line_in (drop i input))

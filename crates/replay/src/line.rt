@@ -50,7 +50,7 @@ pub fn take_line(x: Exchange, number: u32, line: &[u8], out: &mut [u8]) -> Taken
         return Taken {
             answered: Answered {
                 answer: Err(Refusal::BufferTooShort),
-                used,
+                used: 0,
             },
             exchange: x,
         };

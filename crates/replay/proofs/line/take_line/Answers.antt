@@ -5,23 +5,21 @@ use Rattle.replay.proofs.line.take_line.Goals as goal
 pub returns-then-used-eq0 : goal.returns-then-used-eq0
 returns-then-used-eq0 c =
     let a = c.args in
-    let o = c.outcome_of-o in
     let w = c.write_answer-used.ensures in
-    let is = line_outcome_is a.x a.line.now _ o.result c.read_call.ensures.value o.ensures in
+    let is = line_outcome_is a.x a.line.now _ _ c.read_call.ensures.value c.apply_reading-answer.ensures in
     record {
-      value = take_short a.x a.number a.line.now a.out.now o.result is _ w.value c.if-used-eq0.true;
-      out_after = take_put a.x a.number a.line.now a.out.now o.result is _ w.out_after;
-      line_len_bound = take_bound a.x a.number a.line.now a.out.now o.result is w.a_len_bound;
+      value = take_short a.x a.number a.line.now a.out.now _ is _ w.value c.if-used-eq0.true;
+      out_after = take_put a.x a.number a.line.now a.out.now _ is _ w.out_after;
+      line_len_bound = take_bound a.x a.number a.line.now a.out.now _ is w.a_len_bound;
     }
 
 pub returns : goal.returns
 returns c =
     let a = c.args in
-    let o = c.outcome_of-o in
     let w = c.write_answer-used.ensures in
-    let is = line_outcome_is a.x a.line.now _ o.result c.read_call.ensures.value o.ensures in
+    let is = line_outcome_is a.x a.line.now _ _ c.read_call.ensures.value c.apply_reading-answer.ensures in
     record {
-      value = take_fits a.x a.number a.line.now a.out.now o.result is _ w.value c.if-used-eq0.false;
-      out_after = take_put a.x a.number a.line.now a.out.now o.result is _ w.out_after;
-      line_len_bound = take_bound a.x a.number a.line.now a.out.now o.result is w.a_len_bound;
+      value = take_fits a.x a.number a.line.now a.out.now _ is _ w.value c.if-used-eq0.false;
+      out_after = take_put a.x a.number a.line.now a.out.now _ is _ w.out_after;
+      line_len_bound = take_bound a.x a.number a.line.now a.out.now _ is w.a_len_bound;
     }
