@@ -1,63 +1,46 @@
-// A morning's orders at once (document 02, L5): a lent list of orders, each handed to the single-order call, and a lent list that takes their answers.
+// A morning's orders at once (document 02, L5): a lent list of orders, each handed to the single call, and a lent list that takes their answers.
 #![tactic(auto)]
 
 ghost use Rattle.std.specs.Prelude.{◌≡◌};
 ghost use Rattle.model.specs.Run.{Reachable};
 ghost use Rattle.model.specs.OrderLists.{orders_of};
-ghost use Rattle.order_list.specs.Walk.{list_answer, orders_made, placed_one};
 
-use exchange::order;
+use exchange::apply;
 use model::answer::{Answer, Outcome, Refusal};
+use model::call::Call;
 use model::orders::{AnswerPlace, OrderFields};
 use model::state::Exchange;
 
 // "up to 64"
 const MOST_ORDERS: usize = 64;
 
-// An order's answer in its place, and the state after it.
-#[derive(Clone, Copy)]
-struct PlacedOne {
-    place: AnswerPlace,
-    exchange: Exchange,
-}
-
-// One order of the list, by the single-order call.
-fn place_one(x: Exchange, f: OrderFields) -> PlacedOne
-    requires { Reachable x }
-    ensures { result ≡ placed_one x f }
+// The orders made singly on a state lent to the call, from first to last, each answer in its place; or 22, and nothing changes.
+#[tactic(auto, using(crate::proofs::Turns::none_made, crate::proofs::Turns::all_made), unfolding(model::specs::OrderLists::orders_of))]
+pub fn apply_orders(x: &mut Exchange, list: &[OrderFields], answers: &mut [AnswerPlace]) -> Answer
+    requires { Reachable x.old }
+    ensures { record { answer = result; answers = answers.new; exchange = x.new } ≡ orders_of x.old list.now answers.old }
 {
-    let o = order(x, f.ticket, f.member, f.market, f.side, f.limit, f.amount);
-    let answer = o.answer;
-    let exchange = o.exchange;
-    let place = AnswerPlace { answer };
-    PlacedOne { place, exchange }
-}
-
-// The call's own answer, by the lengths of the two lists.
-#[tactic(auto, unfolding(crate::specs::Walk::list_answer))]
-fn list_answer(orders: usize, places: usize) -> Answer
-    ensures { result ≡ list_answer orders places }
-{
-    if orders != places {
+    if list.len() != answers.len() || MOST_ORDERS < list.len() {
         return Err(Refusal::BadOrderList);
     }
-    if MOST_ORDERS < orders {
-        return Err(Refusal::BadOrderList);
+    // by index: after an adapter of iter_mut nothing is known of what it went over
+    for (i, f) in list.iter().enumerate() {
+        answers[i].answer = apply(
+            x,
+            Call::Order {
+                ticket: f.ticket,
+                member: f.member,
+                market: f.market,
+                side: f.side,
+                limit: f.limit,
+                amount: f.amount,
+            },
+        );
     }
     Ok((0, 0))
 }
 
-// How many orders the call makes: all, or none where it is refused.
-fn orders_made(answer: Answer, orders: usize) -> usize
-    ensures { result ≡ orders_made answer orders }
-{
-    match answer {
-        Ok(_) => orders,
-        Err(_) => 0,
-    }
-}
-
-// The orders made singly from first to last, each answer in its place; or 22, and nothing changes.
+// The same, by value: the call's own answer, and the state after it.
 pub fn place_orders(x: Exchange, list: &[OrderFields], answers: &mut [AnswerPlace]) -> Outcome
     requires { Reachable x }
     ensures { (result.answer ≡ (orders_of x list.now answers.old).answer)
@@ -65,14 +48,6 @@ pub fn place_orders(x: Exchange, list: &[OrderFields], answers: &mut [AnswerPlac
         × (answers.new ≡ (orders_of x list.now answers.old).answers) }
 {
     let mut exchange = x;
-    let answer = list_answer(list.len(), answers.len());
-    let n = orders_made(answer, list.len());
-    let mut i: usize = 0;
-    while i < n {
-        let p = place_one(exchange, list[i]);
-        answers[i] = p.place;
-        exchange = p.exchange;
-        i += 1;
-    }
+    let answer = apply_orders(&mut exchange, list, answers);
     Outcome { answer, exchange }
 }
