@@ -13,7 +13,7 @@ use model::answer::Answer;
 use model::call::Call;
 use model::orders::{AnswerPlace, OrderFields};
 use model::state::Exchange;
-use order_list::place_orders;
+use order_list::apply_orders;
 use replay::line::{Answered, take_line};
 
 // One call: its answer. x is then the state after it.
@@ -50,7 +50,5 @@ pub fn place_orders_lent(
         × (x.new ≡ (orders_of x.old list.now answers.old).exchange)
         × (answers.new ≡ (orders_of x.old list.now answers.old).answers) }
 {
-    let o = place_orders(*x, list, answers);
-    *x = o.exchange;
-    o.answer
+    apply_orders(x, list, answers)
 }
