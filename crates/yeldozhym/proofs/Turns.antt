@@ -10,10 +10,15 @@ use Rattle.decimal.proofs.Put.{Run, part_all, put_length}
 use Rattle.lines.specs.AnswerText.{longest_answer}
 use Rattle.replay.specs.declared.day.Day.{Day}
 use Rattle.replay.specs.declared.day.Fed.{Fed}
+use Rattle.model.specs.Run.{Reachable}
 use Rattle.replay.specs.Days.{day_of}
 use Rattle.replay.specs.Pieces.{FedBy, end_text, last_bytes, stream_of, text_of}
 use Rattle.yeldozhym.proofs.Lengths.{rooms_bounded}
-use Rattle.yeldozhym.proofs.DayLaws.{Worked, end_count, end_is, fed_run, first_fits, front, last_line_lem, more_front, rest, takes_some, worked_all, worked_more, worked_room}
+use Rattle.yeldozhym.proofs.DayLaws.{Worked, end_count, end_is, fed_run, first_fits, front, last_line_lem, more_front, rest, takes_some, worked_all, worked_reachable, worked_more, worked_room}
+
+-- the state is one that calls can leave
+pub day_reachable : (input : List ℕ) (from : ℕ) (d : Day) (at : ℕ) → Worked input from (stream_of d) at → Reachable d.exchange
+day_reachable input from d at w = worked_reachable input from (stream_of d) at w
 
 -- the rest of the input is fed
 module _ (input : List ℕ) (from : ℕ) (d : Day) (at : ℕ) (w : Worked input from (stream_of d) at) (out out' : List ℕ) (r : Fed)
@@ -106,8 +111,8 @@ module _ (input : List ℕ) (from : ℕ) (d : Day) (at : ℕ) (w : Worked input 
           takes_some d (last_bytes s.line) _ out' r f h
           (omega (arith, ap (λ (bs : List ℕ). length (text_of s bs)) (last_line_lem s.line h), last_fits, fits, size, lent_is))
 
-      pub final : put_mid at (length out - at) out out' ≡ put_at xs 0 (day_of input)
-      final =
+      pub all_written : put_mid at (length out - at) out out' ≡ put_at xs 0 (day_of input)
+      all_written =
           let n = end_count d _ _ r f.advanced finished in
           (fed_run xs (front input from) out at run d (last_bytes (stream_of d).line) out' r f.advanced
           (omega (arith, n, last_fits, fits, size))

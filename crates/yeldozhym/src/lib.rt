@@ -11,7 +11,7 @@ ghost use Rattle.replay.specs.Days.{day_of};
 use call_writer::{LinePut, put_call_of_fields, write_call_of_fields};
 use lines::answer::header;
 use replay::day::fresh_day;
-use stream::{feed, finish, put_text};
+use stream::{feed, finish};
 
 // The header's length.
 const HEADER_BYTES: usize = 23;
@@ -19,6 +19,7 @@ const HEADER_BYTES: usize = 23;
 // Works the day that input holds and writes its text, the header and an answer line for each line, at the start of out: all of it where it
 // fits, and nothing where it does not. Answers the length of that text, so that it was written exactly where out is at least as long.
 #[unsafe(no_mangle)]
+#[tactic(auto, using(decimal::proofs::Put::put_at_lem, decimal::proofs::Put::put_short))]
 pub extern "C" fn yeldozhym_day(input: &[u8], out: &mut [u8]) -> usize
     ensures value { result ≡ length (day_of input.now) }
     ensures out_after { out.new ≡ put_into out.old (day_of input.now) }
@@ -61,55 +62,49 @@ pub extern "C" fn yeldozhym_put_call(
 }
 
 // The length of the day's text. The answers go to a buffer that is used again for each part of them.
+#[tactic(auto, using(crate::proofs::Turns::day_reachable))]
 fn day_room(input: &[u8]) -> usize
     ensures { result ≡ length (day_of input.now) }
 {
-    let mut scratch = scratch_buffer();
+    // more than a hundred answer lines
+    let mut scratch = [0; 4096];
     let mut day = fresh_day();
-    let mut from: usize = 0;
+    let mut from = 0;
     let mut room = HEADER_BYTES;
     while from < input.len() {
         let fed = feed(day, &input[from..], &mut scratch);
-        let next = fed.day;
-        day = next;
-        room = room + fed.wrote;
-        from = from + fed.used;
+        day = fed.day;
+        room += fed.wrote;
+        from += fed.used;
     }
     let last = finish(day, &mut scratch);
     room + last.wrote
 }
 
-// Room for more than a hundred answer lines.
-fn scratch_buffer() -> [u8; 4096]
-    ensures { length result ≡ 4096 }
-{
-    [0; 4096]
-}
-
 // Writes the day's text at the start of out. It asks for the room.
+#[tactic(auto, using(crate::proofs::DayLaws::header_fits, crate::proofs::Turns::day_reachable, crate::proofs::Turns::room, crate::proofs::Turns::all_written))]
 fn write_day(input: &[u8], out: &mut [u8])
     requires { length (day_of input.now) ≤ length out.old }
     ensures { out.new ≡ put_at out.old 0 (day_of input.now) }
 {
     write_header(out);
     let mut day = fresh_day();
-    let mut from: usize = 0;
+    let mut from = 0;
     let mut at = HEADER_BYTES;
     while from < input.len() {
         let fed = feed(day, &input[from..], &mut out[at..]);
-        let next = fed.day;
-        day = next;
-        at = at + fed.wrote;
-        from = from + fed.used;
+        day = fed.day;
+        at += fed.wrote;
+        from += fed.used;
     }
     finish(day, &mut out[at..]);
 }
 
 // Writes the header at the start of out. It asks for the room.
+#[tactic(auto, unfolding(decimal::specs::Buffer::put_at))]
 fn write_header(out: &mut [u8])
     requires { length header ≤ length out.old }
     ensures { out.new ≡ put_at out.old 0 header }
 {
-    let first = header();
-    put_text(out, &first);
+    out[..HEADER_BYTES].copy_from_slice(&header());
 }

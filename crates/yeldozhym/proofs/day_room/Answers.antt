@@ -1,14 +1,8 @@
 -- `yeldozhym::day_room` meets its contract: what was counted so far is the length of a front of the day's text.
-use mathlib.Core.Path.{◌≡◌}
 use native.Mathlib.Omega.{arith}
-use lib.ListN.{length}
 use Rattle.yeldozhym.proofs.Lengths.{rooms_bounded}
-use Rattle.yeldozhym.proofs.DayLaws.{worked_reachable}
 use Rattle.yeldozhym.proofs.Turns.{place_small, room_is, worked}
 use Rattle.yeldozhym.proofs.day_room.Goals as goal
-
-pub feed-fed-requires : goal.feed-fed-requires
-feed-fed-requires c = worked_reachable _ _ _ _ c.loop-from.invariant
 
 pub overflow_add-room : goal.overflow_add-room
 overflow_add-room c =
@@ -21,19 +15,13 @@ loop-from-preserved c =
     let l = c.loop-from in
     worked c.args.input.now l.from l.day l.room l.invariant _ _ c.feed-fed.result c.feed-fed.ensures
 
-pub finish-last-requires : goal.finish-last-requires
-finish-last-requires c = worked_reachable _ _ _ _ c.loop-from.invariant
-
 pub overflow_add-result : goal.overflow_add-result
 overflow_add-result c =
     let l = c.loop-from in
-    let long : length l.scratch ≡ 4096 = c.loop-from-test.array_long in
-    let e = room_is c.args.input.now l.from l.day l.room l.invariant c.loop-from-test.false l.scratch _ c.finish-last.result c.finish-last.ensures (omega (arith, long)) in
-    omega (arith, e, (rooms_bounded c.args.input.now).by_last)
+    let all = room_is c.args.input.now l.from l.day l.room l.invariant c.loop-from-test.false l.scratch _ c.finish-last.result c.finish-last.ensures (omega (arith, c.loop-from-test.array_long)) in
+    omega (arith, all, (rooms_bounded c.args.input.now).by_last)
 
 pub returns : goal.returns
 returns c =
     let l = c.loop-from in
-    let long : length l.scratch ≡ 4096 = c.loop-from-test.array_long in
-    let e = room_is c.args.input.now l.from l.day l.room l.invariant c.loop-from-test.false l.scratch _ c.finish-last.result c.finish-last.ensures (omega (arith, long)) in
-    e
+    room_is c.args.input.now l.from l.day l.room l.invariant c.loop-from-test.false l.scratch _ c.finish-last.result c.finish-last.ensures (omega (arith, c.loop-from-test.array_long))
