@@ -3,6 +3,8 @@
 #   library        where the words of the library come from that the contracts below use
 #   struct, enum   a public type with its fields or its cases
 #   const          a public constant with its type and its value
+#   type           another name of a type
+#   impl           a trait of a type: its ghost members, and its functions as they are declared
 #   fn             a public function: its parameters and its result, each clause of its contract, and by "with" where the other words of its clauses come from
 # Types have their crate and module, by the file's `use` lines; white space is normalised. A clause that reads the same could mean another thing by its words; so
 # these are faults, and are printed:
@@ -165,7 +167,7 @@ function next_of(i, s) { while (i <= toks && tok[i] != s) i++; return i }
 
 # ---- its items
 
-function items(end, prefix,    attribute, public, what, q, name) {
+function items(end, prefix,    attribute, public, what, q, name, from) {
     while (p <= end) {
         for (attribute = ""; tok[p] == "#"; p = q + 1) {
             q = closed(p + 1)
@@ -190,16 +192,27 @@ function items(end, prefix,    attribute, public, what, q, name) {
             q = next_of(p, ";")
             if (public) keep("const", name, p + 3, q - 1, attribute)
             p = q + 1
-        } else if (what ~ /^(struct|enum)$/ && tok[p + 2] ~ /^[({]$/) {
-            q = closed(p + 2)
+        } else if (what ~ /^(struct|enum)$/ && tok[from = after_generics(p + 2)] ~ /^[({]$/) {
+            q = closed(from)
             own[tok[p + 1]]
-            if (public) keep(what, name, p + 2, q, attribute)
-            p = q + 1 + (tok[p + 2] == "(")
-        } else if (what == "impl" && tok[p + 2] == "{") {
-            q = closed(p + 2)
-            name = tok[p + 1] "::"
-            p += 3
-            items(q - 1, name)
+            if (public) keep(what, name, from, q, attribute)
+            p = q + 1 + (tok[from] == "(")
+        } else if (what == "type" && tok[p + 2] == "=") {
+            q = next_of(p, ";")
+            own[tok[p + 1]]
+            if (public) keep("type", name, p + 3, q - 1, attribute)
+            p = q + 1
+        } else if (what == "impl") {
+            from = next_of(p, "{")
+            q = closed(from)
+            if (next_of(p, "for") < from) {
+                keep("impl", p + 1, from, q, attribute)
+                clause_texts = clause_texts " " text(from + 1, q - 1, 0)
+            } else {
+                name = tok[after_generics(p + 1)] "::"
+                p = from + 1
+                items(q - 1, name)
+            }
             p = q + 1
         } else if (what == "fn" || what == "extern" && tok[p + 2] == "fn") {
             if (what == "extern") {
@@ -253,7 +266,7 @@ function keep(what, name, i, j, attribute) {
 # a type that has to be in the table: not the kit's, and no type parameter
 function is_ours(t,    part) {
     if (split(t, part, "::") > 1) return part[1] in ours
-    return t !~ /^(Option|Result|Vec|String|Box)$/ && !(t in generic)
+    return t !~ /^(Option|Result|Vec|String|Box|From)$/ && !(t in generic)
 }
 
 # The tokens from i to j, with types in full or as they stand
@@ -283,6 +296,7 @@ function write(s) { table[++rows] = s }
 
 function paragraphs(    c) {
     for (c = 1; c <= kept; c++) {
+        if (kept_what[c] == "impl") { members(kept_name[c], kept_from[c], kept_to[c]); continue }
         record = module "::" kept_name[c]
         self = kept_name[c]
         sub(/::.*/, "", self)
@@ -291,8 +305,22 @@ function paragraphs(    c) {
         in_table[record]
         if (kept_attribute[c] != "") write("  " kept_attribute[c])
         if (kept_what[c] == "fn") contract(kept_from[c], kept_to[c])
-        else if (kept_what[c] == "const" || tok[kept_from[c]] == "(") write("  " text(kept_from[c], kept_to[c], 1))
+        else if (kept_what[c] ~ /^(const|type)$/ || tok[kept_from[c]] == "(") write("  " text(kept_from[c], kept_to[c], 1))
         else cases(kept_from[c] + 1, kept_to[c] - 1, kept_what[c])
+    }
+}
+
+# a trait of a type, from its name on, with its block: a line for each member, without the functions' blocks
+function members(i, from, to,    j, q) {
+    split("", generic)
+    record = module
+    write("")
+    write("impl " text(i, from - 1, 1))
+    for (j = from + 1; j < to; j = q + 1) {
+        for (q = j; q < to && tok[q] != ";" && !(tok[q] == "{" && tok[q - 1] != "="); q++)
+            if (tok[q] == "{") q = closed(q)
+        write("  " text(j, q - 1, 1))
+        if (tok[q] == "{") q = closed(q)
     }
 }
 
@@ -338,7 +366,7 @@ function contract(i, j,    q, n, l) {
 }
 
 # The words of a clause: numbers, what every clause is lent, parameters and bound names, and what the file brings
-function clause_words(s, place,    n, part, i, k, found, name, own_bound, b) {
+function clause_words(s, place,    n, part, i, k, found, name, own_bound, label, b) {
     if (s ~ /--|[{]-/) fault(place, record ": a comment in a clause")
     gsub(/«|»/, "", s)
     b = s
@@ -352,6 +380,14 @@ function clause_words(s, place,    n, part, i, k, found, name, own_bound, b) {
     b = s
     while (match(b, /let [a-z][a-z0-9_]* =/)) {
         own_bound[substr(b, RSTART + 4, RLENGTH - 6)]
+        b = substr(b, RSTART + RLENGTH)
+    }
+    # the fields of a record
+    b = s
+    while (match(b, /[{;] *[a-z][a-z0-9_]* = /)) {
+        name = substr(b, RSTART + 1, RLENGTH - 4)
+        sub(/^ */, "", name)
+        label[name]
         b = substr(b, RSTART + RLENGTH)
     }
     # what follows a point is a field, of what is bound or of a term in brackets
@@ -368,7 +404,7 @@ function clause_words(s, place,    n, part, i, k, found, name, own_bound, b) {
     n = split(s, part, " ")
     for (i = 1; i <= n; i++) {
         name = part[i]
-        found = name ~ /^[0-9][0-9_]*$/ || name in own_bound || name in lent
+        found = name ~ /^[0-9][0-9_]*$/ || name in own_bound || name in label || name in lent
         for (k = 1; k <= words; k++)
             if (is_word(name, word[k])) { found = 1; needs[k] }
         if (!found) fault(place, record ": " name " comes from nowhere")

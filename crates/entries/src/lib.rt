@@ -67,5 +67,6 @@ pub fn enter(t: &mut Ticket, market: &mut Market, ticket: u32) -> Answer
     }
     join(r, ticket, o.side, o.offer);
     t.state = TicketState::Entered(o);
-    Ok((totals_of(*r, o.side).total.0, 0))
+    let total = totals_of(*r, o.side).total;
+    Ok((total.0, 0))
 }

@@ -3,7 +3,7 @@
 // The market and the last block are lent apart: a struct of the two would be made for each call, and taken apart in it.
 #![tactic(auto)]
 
-ghost use Rattle.std.specs.Prelude.{◌≡◌, ◌<◌, ◌≤◌};
+ghost use Rattle.std.specs.Prelude.{◌≡◌, ◌≤◌};
 ghost use Rattle.units.specs.Ranges.{highest_reference, highest_slack};
 ghost use Rattle.model.specs.Calls.{matched_round};
 ghost use Rattle.parts.specs.Asked.{MatchBounds};
