@@ -13,7 +13,7 @@ use sides::offered_token;
 use units::Amount;
 
 // 1 Deposit into a member's row and a token's supply.
-#[tactic(auto, using(crate::proofs::Laws::row_calls), unfolding(parts::specs::Parts::deposit_on))]
+#[tactic(auto, using(parts::proofs::RowCalls::row_calls), unfolding(parts::specs::Parts::deposit_on))]
 pub fn deposit(row: &mut Row, supply: &mut Amount, token: u32, n: Amount) -> Answer
     requires { BankBounds row.old supply.old token }
     ensures { record { answer = result; row = row.new; supply = supply.new } ≡ deposit_on row.old supply.old token n.0 }
@@ -23,7 +23,7 @@ pub fn deposit(row: &mut Row, supply: &mut Amount, token: u32, n: Amount) -> Ans
 }
 
 // 2 Withdraw from a member's row and a token's supply.
-#[tactic(auto, using(crate::proofs::Laws::row_calls), unfolding(parts::specs::Parts::withdraw_on))]
+#[tactic(auto, using(parts::proofs::RowCalls::row_calls), unfolding(parts::specs::Parts::withdraw_on))]
 pub fn withdraw(row: &mut Row, supply: &mut Amount, token: u32, n: Amount) -> Answer
     requires { BankBounds row.old supply.old token }
     ensures { record { answer = result; row = row.new; supply = supply.new } ≡ withdraw_on row.old supply.old token n.0 }
@@ -34,7 +34,7 @@ pub fn withdraw(row: &mut Row, supply: &mut Amount, token: u32, n: Amount) -> An
 }
 
 // 3 Order: an offer moved from its member's row into a ticket.
-#[tactic(auto, using(crate::proofs::Laws::row_calls), unfolding(parts::specs::Parts::order_on))]
+#[tactic(auto, using(parts::proofs::RowCalls::row_calls), unfolding(parts::specs::Parts::order_on))]
 pub fn order(row: &mut Row, ticket: &mut Ticket, o: Order) -> Answer
     requires { o.market < 4 }
     ensures { record { answer = result; row = row.new; ticket = ticket.new } ≡ order_on row.old ticket.old o }
@@ -49,7 +49,7 @@ pub fn order(row: &mut Row, ticket: &mut Ticket, o: Order) -> Answer
 }
 
 // 4 Cancel: a resting offer returned to its member's row.
-#[tactic(auto, using(crate::proofs::Laws::row_calls), unfolding(parts::specs::Parts::cancel_on))]
+#[tactic(auto, using(parts::proofs::RowCalls::row_calls), unfolding(parts::specs::Parts::cancel_on))]
 pub fn cancel(row: &mut Row, ticket: &mut Ticket, member: u32) -> Answer
     requires { CancelBounds row.old ticket.old }
     ensures { record { answer = result; row = row.new; ticket = ticket.new } ≡ cancel_on row.old ticket.old member }

@@ -19,6 +19,7 @@ use Rattle.model.specs.State.{totals_of}
 use Rattle.model.specs.Calls.{not_available}
 use Rattle.model.proofs.Frames.{offered_lt, wanted_lt}
 use Rattle.parts.specs.Asked.{BidBounds}
+use Rattle.parts.proofs.RowCalls.{row_calls}
 use Rattle.bids.specs.Steps.{TradeRoom}
 
 module _ (r : Round) (row : Row) (last : Block) (number : ℕ) (b : BidBounds r row last number) (s : Side) (n q : ℕ) (a : not_available s n q (totals_of r s) ≡ false) where
@@ -48,7 +49,6 @@ pub given_taken : (row paid got : Row) (e f : Entry) (a : Amount) (s : Side) (nu
     → ◌≡◌ {A = RowPosting} (record { entry = e; row = paid }) (debit_row_of row (wanted s number) (gives s n q)) → e ≡ Ok a
     → ◌≡◌ {A = RowPosting} (record { entry = f; row = got }) (credit_row_of paid (offered s number) (takes s n q))
     → (gives s n q ≤ cell_of row (wanted s number)) × (got ≡ credited_row (debited_row row (wanted s number) (gives s n q)) (offered s number) (takes s n q))
-unfolding debit_row_of credit_row_of
 given_taken row paid got e f a s number n q h z fit given done taken =
     let less = (row_debits row (wanted s number) (gives s n q)).cells z (wanted_lt s number h) in
-    grind (arith, common_steps, offered_lt, wanted_lt)
+    grind (arith, common_steps, row_calls, offered_lt, wanted_lt)

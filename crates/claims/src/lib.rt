@@ -43,7 +43,7 @@ fn move_out(r: &mut Round, ticket: u32, side: Side, refund: Amount, got: Amount)
 }
 
 // What an order gets, added to its member's row: it fits, so the ledger refuses nothing.
-#[tactic(auto, unfolding(ledger::specs::Postings::credit_row_of))]
+#[tactic(auto, using(parts::proofs::RowCalls::row_calls))]
 fn credit(row: &mut Row, token: u32, n: Amount)
     requires { (token < 4) × (cell_of row.old token + n.0 ≤ largest) }
     ensures { row.new ≡ credited_row row.old token n.0 }

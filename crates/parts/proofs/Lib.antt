@@ -1,4 +1,5 @@
 pub mod OneRow
+pub mod RowCalls
 pub mod RowsKept
 pub mod OnParts
 pub mod PartBounds
