@@ -23,15 +23,17 @@ enum Failure {
     Write(Error),
 }
 
-// The day between two pieces of its input, and room for answers.
+// The day between two pieces of its input, where its answers go, and room for them.
 #[derive(Drop)]
-struct Replay {
+struct Replay<'a, C, W> {
+    clock: &'a C,
+    to: &'a mut W,
     day: Day,
     out: [u8; PIECE],
 }
 
 // Contracts see what was fed so far.
-impl Model for Replay {
+impl<'a, C, W> Model for Replay<'a, C, W> {
     ghost Value = { Stream };
 
     ghost view = { λ r. stream_of r.day };
@@ -39,31 +41,28 @@ impl Model for Replay {
     ghost invariant = { λ r. Reachable r.day.exchange };
 }
 
-impl Replay {
+impl<'a, C: Clock, W: Write> Replay<'a, C, W> {
     #[tactic(auto, using(crate::proofs::Piece::start_reachable))]
-    fn new() -> Self
+    fn new(clock: &'a C, to: &'a mut W) -> Self
         ensures { result ≡ start }
     {
         Replay {
+            clock,
+            to,
             day: fresh_day(),
             out: [0; PIECE],
         }
     }
 
     // Feeds a piece of the input and writes what it answers.
-    fn take_piece<W: Write>(
-        &mut self,
-        clock: &impl Clock,
-        to: &mut W,
-        input: &[u8],
-    ) -> io::Result<()>
+    fn take_piece(&mut self, input: &[u8]) -> io::Result<()>
         ensures { OnOk result (self.new ≡ after self.old input.now) }
     {
         let mut rest = input;
         while !rest.is_empty() {
             let fed = feed(self.day, rest, &mut self.out);
             self.day = fed.day;
-            stdio::write_all(clock, to, &self.out[..fed.wrote])?;
+            stdio::write_all(self.clock, self.to, &self.out[..fed.wrote])?;
             rest = &rest[fed.used..];
         }
         Ok(())
@@ -71,34 +70,27 @@ impl Replay {
 
     // Reads to the end of the input, or until the last line is answered. A proved loop has to end, so it has a number of turns that no run
     // uses up.
-    fn take_all<R: Read, W: Write>(
-        &mut self,
-        clock: &impl Clock,
-        from: &mut R,
-        to: &mut W,
-    ) -> Result<(), Failure> {
+    fn take_all<R: Read>(&mut self, from: &mut R) -> Result<(), Failure> {
         let mut input = [0; PIECE];
         'turns: for _ in 0..u64::MAX {
             if LAST_LINE <= self.day.done {
                 break;
             }
-            match stdio::read(clock, from, &mut input).map_err(Failure::Read)? {
+            match stdio::read(self.clock, from, &mut input).map_err(Failure::Read)? {
                 0 => break,
-                count => self
-                    .take_piece(clock, to, &input[..count])
-                    .map_err(Failure::Write)?,
+                count => self.take_piece(&input[..count]).map_err(Failure::Write)?,
             }
         }
         Ok(())
     }
 
     // Answers the last line where it has no byte 10.
-    fn take_last<W: Write>(&mut self, clock: &impl Clock, to: &mut W) -> io::Result<()>
+    fn take_last(&mut self) -> io::Result<()>
         ensures { self.new ≡ ended self.old }
     {
         let fed = finish(self.day, &mut self.out);
         self.day = fed.day;
-        stdio::write_all(clock, to, &self.out[..fed.wrote])
+        stdio::write_all(self.clock, self.to, &self.out[..fed.wrote])
     }
 }
 
@@ -109,9 +101,9 @@ fn answer_all<R: Read, W: Write>(
     to: &mut W,
 ) -> Result<(), Failure> {
     stdio::write_all(clock, to, &header()).map_err(Failure::Write)?;
-    let mut replay = Replay::new();
-    replay.take_all(clock, from, to)?;
-    replay.take_last(clock, to).map_err(Failure::Write)
+    let mut replay = Replay::new(clock, to);
+    replay.take_all(from)?;
+    replay.take_last().map_err(Failure::Write)
 }
 
 // Whether the program was started with an argument.
