@@ -110,15 +110,12 @@ pub fn call_of_fields(kind: u32, fields: &[u32]) -> Option<Call>
     if MOST_FIELDS < fields.len() {
         return None;
     }
-    let mut values: [u32; 8] = [0; 8];
+    let count = fields.len() + 1;
+    let mut values = [0u32; 8];
     values[0] = kind;
-    let mut i: usize = 0;
-    while i < fields.len() {
-        values[i + 1] = fields[i];
-        i = i + 1;
-    }
+    values[1..count].copy_from_slice(fields);
     call_of(Fields {
-        count: fields.len() + 1,
+        count,
         values,
         stop: 0,
     })

@@ -1,5 +1,5 @@
 -- Calls written at places of a buffer, and lines read and written again, computed.
-use Rattle.std.specs.Prelude.{None}
+use Rattle.std.specs.Prelude.{None, Some, Option}
 use mathlib.Core.Path.{◌≡◌, refl}
 use mathlib.Core.List.{List, [], ◌∷◌, ◌++◌, map}
 use Prim.Native.Nat.{ℕ}
@@ -15,8 +15,6 @@ use Rattle.lines.specs.declared.call.LineAt.{LineAt}
 use Rattle.lines.specs.CallLines.{of_kind, call_of, reading_of, line_at}
 use Rattle.lines.specs.CallText.{line_of_numbers, line_of_call, call_line}
 use Rattle.lines.specs.LineExamples.{CallLine, call_lines, no_calls}
-use Rattle.call_writer.specs.declared.CallWritten.{CallWritten}
-use Rattle.call_writer.specs.declared.CallWritten.TheVariants.{Written, TooShort}
 use Rattle.call_writer.specs.declared.LinePut.{LinePut}
 use Rattle.call_writer.specs.Writing.{written_of, written_code, written_length, shortest_call, longest_call, line_of_reading, put_of}
 use Rattle.call_writer.specs.RoundTrips.{LineOf, ReadAgain}
@@ -31,7 +29,7 @@ text_computes = tt
 abbrev Told : Type 0
 Told = ℕ × ℕ × List ℕ
 
-abbrev told : CallPut → CallWritten → Told
+abbrev told : CallPut → Option ℕ → Told
 told e w = (written_code w, written_length w, put_from (hashes e.room) e.place (call_line e.call))
 
 abbrev defined : CallPut → Told
@@ -55,7 +53,7 @@ unfolding text_computes
 line_bounds = refl
 
 -- "Refused: 21 when the place is past the buffer's end or what follows it is too short": the number of that refusal
-pub refused_code : written_code TooShort ≡ refusal_code BufferTooShort
+pub refused_code : written_code None ≡ refusal_code BufferTooShort
 refused_code = refl
 
 -- ---- plain numbers
@@ -110,6 +108,6 @@ unfolding text_computes
 before_end = record { ends = refl; line = refl }
 
 -- ##6,0LF is read at place 2
-pub read_again : ReadAgain (35 ∷ 35 ∷ 54 ∷ 44 ∷ 48 ∷ 10 ∷ []) 2 (Enter 0) (Written 4)
+pub read_again : ReadAgain (35 ∷ 35 ∷ 54 ∷ 44 ∷ 48 ∷ 10 ∷ []) 2 (Enter 0) (Some 4)
 unfolding text_computes line_at reading_of line_numbers number_of of_kind
 read_again = refl

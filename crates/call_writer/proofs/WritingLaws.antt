@@ -1,4 +1,5 @@
 -- Laws of what the call writer answers.
+use Rattle.std.specs.Prelude.{Some, None}
 use mathlib.Core.Path.{◌≡◌, sym, ap, ◌∙◌}
 use mathlib.Core.List.{List, [], ◌∷◌, ◌++◌, append_assoc}
 use Prim.Native.Nat.{ℕ, ◌+◌, ◌-◌, ◌≤◌, ◌<◌}
@@ -12,15 +13,14 @@ use Rattle.decimal.specs.Buffer.{put_at}
 use Rattle.decimal.proofs.Put.{put_length, from_fits, from_short}
 use Rattle.lines.specs.CallText.{line_of_numbers, line_of_call}
 use Rattle.lines.proofs.RoundTrip.{numbers_call}
-use Rattle.call_writer.specs.declared.CallWritten.TheVariants.{Written, TooShort}
 use Rattle.call_writer.specs.Writing.{written_of, written_length, line_of_reading, RefusedWhen, OutsidesKept, NumbersKept}
 
 module _ (out : List ℕ) (at : ℕ) (text : List ℕ) where
-  pub told_fits : at + length text ≤ length out → Written (length text) ≡ written_of (length out) at text
+  pub told_fits : at + length text ≤ length out → Some (length text) ≡ written_of (length out) at text
   unfolding written_of
   told_fits h = rw (le-leb _ _ h)
 
-  pub told_short : length out < at + length text → TooShort ≡ written_of (length out) at text
+  pub told_short : length out < at + length text → None ≡ written_of (length out) at text
   unfolding written_of
   told_short h = rw (lt-leb _ _ h)
 

@@ -1,12 +1,11 @@
 -- The statements of Writing.antt and RoundTrips.antt used: at places that just fit and beside them, on a line of four bytes.
-use Rattle.std.specs.Prelude.{ℕ, ◌+◌, ◌≤◌, ◌≡◌, List, [], ◌∷◌, ◌++◌, length, drop, Some}
+use Rattle.std.specs.Prelude.{ℕ, ◌+◌, ◌≤◌, ◌≡◌, List, [], ◌∷◌, ◌++◌, length, drop, Some, None}
 use Rattle.decimal.specs.Buffer.{put_from}
 use Rattle.model.specs.declared.call.Call.{Call}
 use Rattle.model.specs.declared.call.Call.TheVariants.{Enter}
 use Rattle.model.specs.Kinds.{numbers_of_call}
 use Rattle.lines.specs.CallLines.{call_of, line_at}
 use Rattle.lines.specs.CallText.{line_of_numbers, call_line, Small}
-use Rattle.call_writer.specs.declared.CallWritten.TheVariants.{Written, TooShort}
 use Rattle.call_writer.specs.Writing.{written_of, RefusedWhen, OutsideKept, OutsidesKept, LineBounded, LinesBounded, line_of_reading, NumbersKept}
 use Rattle.call_writer.specs.RoundTrips.{WrittenRead, LineOf, ReadWritten, WrittenOver}
 
@@ -16,10 +15,10 @@ enter_line = 54 ∷ 44 ∷ 48 ∷ 10 ∷ []
 
 pub record LawsUsed : Type 0 where
   -- six bytes: four fit at place 2 and not at 3; no bytes fit at 6, and not at 7
-  pub just_fits : RefusedWhen → written_of 6 2 enter_line ≡ Written 4
-  pub too_short : RefusedWhen → written_of 6 3 enter_line ≡ TooShort
-  pub none_at_end : RefusedWhen → written_of 6 6 [] ≡ Written 0
-  pub past_end : RefusedWhen → written_of 6 7 [] ≡ TooShort
+  pub just_fits : RefusedWhen → written_of 6 2 enter_line ≡ Some 4
+  pub too_short : RefusedWhen → written_of 6 3 enter_line ≡ None
+  pub none_at_end : RefusedWhen → written_of 6 6 [] ≡ Some 0
+  pub past_end : RefusedWhen → written_of 6 7 [] ≡ None
   -- text at place 1
   pub outside : OutsidesKept → (out text : List ℕ) → OutsideKept out 1 text
   pub after : (out text : List ℕ) → OutsideKept out 1 text → drop (1 + length text) (put_from out 1 text) ≡ drop (1 + length text) out

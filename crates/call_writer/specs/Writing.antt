@@ -5,19 +5,17 @@ use Rattle.model.specs.declared.call.Call.{Call}
 use Rattle.model.specs.Kinds.{numbers_of_call}
 use Rattle.lines.specs.CallLines.{call_of}
 use Rattle.lines.specs.CallText.{line_of_numbers, call_line, Small}
-use Rattle.call_writer.specs.declared.CallWritten.{CallWritten}
-use Rattle.call_writer.specs.declared.CallWritten.TheVariants.{Written, TooShort}
 use Rattle.call_writer.specs.declared.LinePut.{LinePut}
 
 -- text written at a place of a buffer of room bytes: "with the length", or "Refused: 21 when the place is past the buffer's end or what
 -- follows it is too short"
-unfoldable pub written_of : ℕ → ℕ → List ℕ → CallWritten
-written_of room at text = cond (leb (at + length text) room) (Written (length text)) TooShort
+unfoldable pub written_of : ℕ → ℕ → List ℕ → Option ℕ
+written_of room at text = cond (leb (at + length text) room) (Some (length text)) None
 
 -- the same by the request's two tests
 abbrev pub RefusedWhen : Type 0
 RefusedWhen = (out : List ℕ) (at : ℕ) (text : List ℕ)
-    → written_of (length out) at text ≡ cond (ltb (length out) at || ltb (length (drop at out)) (length text)) TooShort (Written (length text))
+    → written_of (length out) at text ≡ cond (ltb (length out) at || ltb (length (drop at out)) (length text)) None (Some (length text))
 
 -- "Bytes outside the line stay", and of 21 "no byte changed": the buffer after text was written at a place, or was not
 pub record OutsideKept (out : List ℕ) (at : ℕ) (text : List ℕ) : Type 0 where
@@ -30,14 +28,14 @@ OutsidesKept = (out : List ℕ) (at : ℕ) (text : List ℕ) → OutsideKept out
 
 -- ---- in the paper's numbers
 
-abbrev pub written_code : CallWritten → ℕ
-written_code (Written n) = 0
-written_code TooShort = 21
+abbrev pub written_code : Option ℕ → ℕ
+written_code (Some n) = 0
+written_code None = 21
 
 -- the line's bytes, its byte 10 among them; of 21, "with length 0"
-abbrev pub written_length : CallWritten → ℕ
-written_length (Written n) = n
-written_length TooShort = 0
+abbrev pub written_length : Option ℕ → ℕ
+written_length (Some n) = n
+written_length None = 0
 
 -- ---- how long a line is
 
@@ -68,7 +66,7 @@ abbrev pub NumbersKept : Type 0
 NumbersKept = (ns : List ℕ) (c : Call) → call_of ns ≡ Some c → line_of_reading (call_of ns) ≡ line_of_numbers ns ++ (10 ∷ [])
 
 -- code and length of a call
-abbrev pub told_of : CallWritten → LinePut
+abbrev pub told_of : Option ℕ → LinePut
 told_of w = record { code = written_code w; length = written_length w }
 
 -- what is told of plain numbers at a place of a buffer of room bytes; what is no call has no line that could fit or not, so it is 20 at every place

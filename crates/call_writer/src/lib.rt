@@ -15,15 +15,8 @@ use model::call::Call;
 // No call's line is longer, its byte 10 included.
 pub const LONGEST_CALL: usize = 68;
 
-// A call written: the length of its line, or too little room (21).
-#[derive(Clone, Copy)]
-pub enum CallWritten {
-    Written(usize),
-    TooShort,
-}
-
 // What is told where plain numbers are written as a call's line: 0 and the line's length; 20 and 0 where they are no call's; 21 and 0 where the line
-// does not fit.
+// does not fit. C takes it so: a flag with a value beside it.
 #[repr(C)]
 #[derive(Clone, Copy)]
 pub struct LinePut {
@@ -31,89 +24,70 @@ pub struct LinePut {
     pub length: usize,
 }
 
-// The paper's number: 0 where the line was written, 21 where it was not.
-pub fn written_code(w: CallWritten) -> u32
+// The paper's number of a call written: 0 where the line was written, whose length is told, and 21 where it was not.
+pub fn written_code(w: Option<usize>) -> u32
     ensures { result ≡ written_code w }
 {
     match w {
-        CallWritten::Written(_) => 0,
-        CallWritten::TooShort => 21,
+        Some(_) => 0,
+        None => 21,
     }
 }
 
 // The bytes written, byte 10 among them.
-pub fn written_length(w: CallWritten) -> usize
+pub fn written_length(w: Option<usize>) -> usize
     ensures { result ≡ written_length w }
 {
-    match w {
-        CallWritten::Written(length) => length,
-        CallWritten::TooShort => 0,
-    }
+    w.unwrap_or(0)
 }
 
-// How long the line of the first count values is, without its byte 10: the first, and each other one with the comma before it; eleven bytes at most for
-// each of eight.
-fn line_size(values: [u32; 8], count: usize) -> usize
-    requires { (0 < count) × (count ≤ 8) }
-    ensures value { result ≡ length (line_of_numbers (take count values)) }
+// How long the line of some numbers is, without its byte 10: the first, and each other one with the comma before it; eleven bytes at most for each of eight.
+fn line_size(numbers: &[u32]) -> usize
+    requires { (0 < length numbers.now) × (length numbers.now ≤ 8) }
+    ensures value { result ≡ length (line_of_numbers numbers.now) }
     ensures upper_bound { result ≤ 88 }
 {
-    let mut size = digit_count(values[0]);
-    let mut i: usize = 1;
-    while i < count {
-        size = size + 1 + digit_count(values[i]);
-        i = i + 1;
+    let mut size = numbers.len() - 1;
+    for n in numbers {
+        size = size + digit_count(*n);
     }
     size
 }
 
-// How many bytes a buffer of size bytes has from a place on: none where the place is past its end.
-fn room_from(size: usize, at: usize) -> usize
-    ensures { result ≡ size - at }
+// Writes the line of some numbers, with its byte 10, from index at on. It asks for that room.
+fn write_numbers(out: &mut [u8], at: usize, numbers: &[u32])
+    requires count_nonzero { (0 < length numbers.now) × (length numbers.now ≤ 8) }
+    requires values_in_bounds { at + length (line_of_numbers numbers.now) + 1 ≤ length out.old }
+    ensures { out.new ≡ put_at out.old at (line_of_numbers numbers.now ++ (10 ∷ [])) }
 {
-    if size < at {
-        return 0;
-    }
-    size - at
-}
-
-// Writes the line of the first count values, with its byte 10, from index at on. It asks for that room.
-fn write_numbers(out: &mut [u8], at: usize, values: [u32; 8], count: usize)
-    requires count_nonzero { (0 < count) × (count ≤ 8) }
-    requires values_in_bounds { at + length (line_of_numbers (take count values)) + 1 ≤ length out.old }
-    ensures { out.new ≡ put_at out.old at (line_of_numbers (take count values) ++ (10 ∷ [])) }
-{
-    let last = count - 1;
+    let last = numbers.len() - 1;
     let mut next = at;
-    let mut i: usize = 0;
-    while i < last {
-        next = write_field(out, next, values[i], b',');
-        i = i + 1;
+    for n in &numbers[..last] {
+        next = write_field(out, next, *n, b',');
     }
-    write_field(out, next, values[last], b'\n');
+    write_field(out, next, numbers[last], b'\n');
 }
 
 // Writes the call's line with its byte 10 into out from the place at on, and tells its length. Where the place is past the end of out or what
 // follows it is too short: 21, and out is unchanged. A line that was written is read there as the call, and none is longer than LONGEST_CALL.
-pub fn write_call(out: &mut [u8], at: usize, call: Call) -> CallWritten
+pub fn write_call(out: &mut [u8], at: usize, call: Call) -> Option<usize>
     ensures value { result ≡ written_of (length out.old) at (call_line call) }
     ensures out_after { out.new ≡ put_from out.old at (call_line call) }
     ensures read_again { ReadAgain out.new at call result }
     ensures line_bounded { LineBounded call }
 {
-    let numbers = numbers_of(call);
-    let values = numbers.values;
-    let count = numbers.count;
-    let size = line_size(values, count) + 1;
-    if room_from(out.len(), at) < size {
-        return CallWritten::TooShort;
+    let c = numbers_of(call);
+    let numbers = &c.values[..c.count];
+    let size = line_size(numbers) + 1;
+    if out.len().saturating_sub(at) < size {
+        return None;
     }
-    write_numbers(out, at, values, count);
-    CallWritten::Written(size)
+    write_numbers(out, at, numbers);
+    Some(size)
 }
 
 // A call's code and length.
-fn line_told(w: CallWritten) -> LinePut
+fn line_told(w: Option<usize>) -> LinePut
     ensures { result ≡ told_of w }
 {
     LinePut {

@@ -1,24 +1,33 @@
 -- `call_writer::line_size` meets its contract.
 use mathlib.Core.Path.{◌≡◌, ap}
+use mathlib.Core.List.{List}
 use Prim.Native.Nat.{ℕ}
 use native.Mathlib.Omega.{arith}
-use borrow.Author.Rules.{rules}
 use lib.ListN.{length, take}
+use lib.Seq.{take-length}
+use Rattle.lines.specs.CallText.{line_of_numbers}
 use Rattle.call_writer.proofs.Text.{comma_text, comma_longer, line_size}
 use Rattle.call_writer.proofs.line_size.Goals as goal
 
-pub loop-i-preserved : goal.loop-i-preserved
-loop-i-preserved c =
-    let eight : length c.args.values ≡ 8 = search rules in
-    let more = comma_longer c.args.values c.loop-i.i (omega (arith, eight, c.loop-i-test.true, c.requires.1)) in (
-      omega (arith, c.loop-i-test.true),
-      omega (arith, more, c.loop-i.invariant.1, c.digit_count.ensures.value),
-      omega (arith, c.loop-i.invariant.2, c.digit_count.ensures.upper_bound),
+pub loop-n-preserved : goal.loop-n-preserved
+loop-n-preserved c =
+    let i = c.loop-n.invariant in
+    let more = comma_longer c.args.numbers.now c.loop-n.n-index (omega (arith, c.loop-n-test.true)) in (
+      omega (arith, c.loop-n-test.true),
+      omega (arith, more, i.1, c.digit_count-size.ensures.value),
+      omega (arith, i.2, c.digit_count-size.ensures.upper_bound),
     )
 
 pub returns-clause-value : goal.returns-clause-value
 returns-clause-value c =
-    let eight : length c.args.values ≡ 8 = search rules in
-    let all : c.loop-i.i ≡ c.args.count = omega (arith, c.loop-i.invariant.0, c.loop-i-test.false) in
-    let whole = line_size c.args.values c.args.count c.requires.0 (omega (arith, c.requires.1, eight)) in
-    omega (arith, c.loop-i.invariant.1, ap (λ (k : ℕ). length (comma_text (take k c.args.values))) all, whole)
+    let vs = c.args.numbers.now in
+    let all : c.loop-n.n-index ≡ length vs = omega (arith, c.loop-n.invariant.0, c.loop-n-test.false) in
+    let whole = line_size vs (length vs) c.requires.0 (omega arith) in
+    omega (
+      arith,
+      c.loop-n.invariant.1,
+      all,
+      ap (λ (k : ℕ). length (comma_text (take k vs))) all,
+      whole,
+      ap (λ (l : List ℕ). length (line_of_numbers l)) (take-length vs),
+    )

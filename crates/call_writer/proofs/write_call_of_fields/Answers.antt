@@ -1,6 +1,7 @@
 -- `call_writer::write_call_of_fields` meets its contract: the line of the call that the numbers are, or nothing.
 use Rattle.std.specs.Prelude.{Option}
 use mathlib.Core.Path.{sym, ap, ◌∙◌}
+use Rattle.model.specs.declared.call.Call.{Call}
 use lib.ListN.{length}
 use Rattle.decimal.specs.Buffer.{put_from}
 use Rattle.decimal.proofs.Put.{from_nothing}
