@@ -105,6 +105,7 @@ pub fn write<W: Write>(clock: &impl Clock, to: &mut W, text: &[u8]) -> Result<()
     ensures bytes { IfErr result (λ s. Appends (W.contents to.old) (W.contents to.new) (take s.count text.now)) }
     ensures error { IfErr result (λ s. passes (number_of s.error) ≡ false) }
 {
+    // only its answer tells how much a call moves, so no iterator steps here, nor in read_to_end
     let mut count = 0;
     while count < text.len() {
         match write_some(clock, to, &text[count..]) {
@@ -148,7 +149,7 @@ fn read_to_end<R: Read>(clock: &impl Clock, from: &mut R, buf: &mut [u8]) -> Res
     Ok(count)
 }
 
-// Room for an input of up to 1,048,576 bytes, and one byte more.
+// Room for an input of up to 1,048,576 bytes, and one byte more. The programs above name no size.
 pub fn input_buffer() -> [u8; 1048577]
     ensures { result ≡ replicate 1048577 0 }
 {
