@@ -7,8 +7,7 @@ ghost use Rattle.lines.specs.CallLines.{call_of};
 ghost use Rattle.lines.specs.CallText.{Small};
 ghost use Rattle.call_numbers.specs.Numbers.{call_numbers};
 
-use fields::Fields;
-use lines::call::call_of;
+use lines::call::call_in;
 use model::call::Call;
 
 // The first count of the values are a call's kind number and its fields, and the rest are 0.
@@ -114,9 +113,5 @@ pub fn call_of_fields(kind: u32, fields: &[u32]) -> Option<Call>
     let mut values = [0u32; 8];
     values[0] = kind;
     values[1..count].copy_from_slice(fields);
-    call_of(Fields {
-        count,
-        values,
-        stop: 0,
-    })
+    call_in(&values[..count])
 }

@@ -3,12 +3,12 @@ use Rattle.std.specs.Prelude.{Some, None, Option}
 use mathlib.Core.Path.{◌≡◌, refl, sym, ap, ◌∙◌}
 use mathlib.Core.Bool.{Bool, true, false, cond}
 use mathlib.Core.List.{List, [], ◌∷◌, ◌++◌}
-use Prim.Native.Nat.{ℕ, zero, suc, ◌+◌, ◌-◌, ◌≤◌, ◌<◌}
+use Prim.Native.Nat.{ℕ, suc, ◌+◌, ◌-◌, ◌≤◌, ◌<◌}
 use native.Mathlib.Numerals.{add-one}
 use native.Mathlib.Omega.{arith}
 use native.Mathlib.Nat.{le_of_suc-le-suc, not-suc-le-zero}
 use lib.ListN.{length, get_or, take, drop, drop_of_length-le}
-use lib.Seq.{drop-cons, drop-drop, take_all}
+use lib.Seq.{drop-cons, drop-drop}
 use lib.Dec.{leb, eqb}
 use borrow.Author.Tests.{eq-eqb, ne_eqb, leb-true, leb-false, eqb-true}
 use Rattle.units.proofs.Cases.{by_test}
@@ -34,87 +34,27 @@ cond_same : (t : Bool) (r : Option Call) → cond t r r ≡ r
 cond_same true r = refl
 cond_same false r = refl
 
-pub no_one : (k a : ℕ) → (k ≡ 6 → ⊥) → (k ≡ 10 → ⊥) → None ≡ of_kind k (a ∷ [])
-unfolding of_kind
-no_one k a h6 h10 = simp (ne_eqb k 6 h6, ne_eqb k 10 h10, cond_same)
-
-pub no_two : (k a b : ℕ) → (k ≡ 4 → ⊥) → (k ≡ 7 → ⊥) → (k ≡ 9 → ⊥) → (k ≡ 11 → ⊥) → None ≡ of_kind k (a ∷ (b ∷ []))
-unfolding of_kind
-no_two k a b h4 h7 h9 h11 = simp (ne_eqb k 4 h4, ne_eqb k 7 h7, ne_eqb k 9 h9, ne_eqb k 11 h11, cond_same)
-
-pub no_three : (k a b c : ℕ) → (k ≡ 1 → ⊥) → (k ≡ 2 → ⊥) → None ≡ of_kind k (a ∷ (b ∷ (c ∷ [])))
-unfolding of_kind
-no_three k a b c h1 h2 = simp (ne_eqb k 1 h1, ne_eqb k 2 h2, cond_same)
-
-pub no_five : (k a b c d e : ℕ) → (k ≡ 5 → ⊥) → None ≡ of_kind k (a ∷ (b ∷ (c ∷ (d ∷ (e ∷ [])))))
-unfolding of_kind
-no_five k a b c d e h5 = simp (ne_eqb k 5 h5, cond_same)
-
-pub no_six : (k a b c d e f : ℕ) → (k ≡ 3 → ⊥) → (k ≡ 8 → ⊥) → None ≡ of_kind k (a ∷ (b ∷ (c ∷ (d ∷ (e ∷ (f ∷ []))))))
-unfolding of_kind
-no_six k a b c d e f h3 h8 = simp (ne_eqb k 3 h3, ne_eqb k 8 h8, cond_same)
-
 -- ---- the call of so many numbers
-
-pub no_fields : (k : ℕ) → None ≡ of_kind k []
-unfolding of_kind
-no_fields k = simp cond_same
-
-pub no_four : (k a b c d : ℕ) → None ≡ of_kind k (a ∷ (b ∷ (c ∷ (d ∷ []))))
-unfolding of_kind
-no_four k a b c d = simp cond_same
 
 pub no_seven : (k a b c d e f g : ℕ) (ns : List ℕ) → None ≡ of_kind k (a ∷ (b ∷ (c ∷ (d ∷ (e ∷ (f ∷ (g ∷ ns)))))))
 unfolding of_kind
 no_seven k a b c d e f g ns = simp cond_same
 
--- a list of eight
-eight : (P : List ℕ → Type 0) → ((a b c d e f g h : ℕ) → P (a ∷ (b ∷ (c ∷ (d ∷ (e ∷ (f ∷ (g ∷ (h ∷ [])))))))))
-    → (l : List ℕ) → length l ≡ 8 → P l
-eight P p [] q = absurd (omega (arith, q))
-eight P p (a ∷ []) q = absurd (omega (arith, q))
-eight P p (a ∷ (b ∷ [])) q = absurd (omega (arith, q))
-eight P p (a ∷ (b ∷ (c ∷ []))) q = absurd (omega (arith, q))
-eight P p (a ∷ (b ∷ (c ∷ (d ∷ [])))) q = absurd (omega (arith, q))
-eight P p (a ∷ (b ∷ (c ∷ (d ∷ (e ∷ []))))) q = absurd (omega (arith, q))
-eight P p (a ∷ (b ∷ (c ∷ (d ∷ (e ∷ (f ∷ [])))))) q = absurd (omega (arith, q))
-eight P p (a ∷ (b ∷ (c ∷ (d ∷ (e ∷ (f ∷ (g ∷ []))))))) q = absurd (omega (arith, q))
-eight P p (a ∷ (b ∷ (c ∷ (d ∷ (e ∷ (f ∷ (g ∷ (h ∷ [])))))))) q = p a b c d e f g h
-eight P p (a ∷ (b ∷ (c ∷ (d ∷ (e ∷ (f ∷ (g ∷ (h ∷ (i ∷ l))))))))) q = absurd (omega (arith, q))
+-- no call has as many numbers as the field reader keeps
+pub no_eight : (l : List ℕ) → 7 < length l → None ≡ call_of l
+no_eight [] q = absurd (omega (arith, q))
+no_eight (a ∷ []) q = absurd (omega (arith, q))
+no_eight (a ∷ (b ∷ [])) q = absurd (omega (arith, q))
+no_eight (a ∷ (b ∷ (c ∷ []))) q = absurd (omega (arith, q))
+no_eight (a ∷ (b ∷ (c ∷ (d ∷ [])))) q = absurd (omega (arith, q))
+no_eight (a ∷ (b ∷ (c ∷ (d ∷ (e ∷ []))))) q = absurd (omega (arith, q))
+no_eight (a ∷ (b ∷ (c ∷ (d ∷ (e ∷ (f ∷ [])))))) q = absurd (omega (arith, q))
+no_eight (a ∷ (b ∷ (c ∷ (d ∷ (e ∷ (f ∷ (g ∷ []))))))) q = absurd (omega (arith, q))
+no_eight (a ∷ (b ∷ (c ∷ (d ∷ (e ∷ (f ∷ (g ∷ (h ∷ l)))))))) q = no_seven a b c d e f g h l
 
--- its first k, by their places
-pub take_first : (k n : ℕ) (l : List ℕ) → length l ≡ 8 → n ≡ k
-    → take n l ≡ take k (get_or l 0 0 ∷ (get_or l 1 0 ∷ (get_or l 2 0 ∷ (get_or l 3 0 ∷ (get_or l 4 0 ∷ (get_or l 5 0 ∷ (get_or l 6 0 ∷ (get_or l 7 0 ∷ []))))))))
-take_first k n l q e =
-    ap (λ (m : ℕ). take m l) e
-    ∙ ap (take k) (eight (λ (l : List ℕ). l ≡ get_or l 0 0 ∷ (get_or l 1 0 ∷ (get_or l 2 0 ∷ (get_or l 3 0 ∷ (get_or l 4 0 ∷ (get_or l 5 0 ∷ (get_or l 6 0 ∷ (get_or l 7 0 ∷ [])))))))) (λ a b c d e f g h. refl) l q)
-
--- no call has one number, five, or eight and more
-pub no_count : (n : ℕ) (l : List ℕ) → length l ≡ 8 → (n ≡ 2 → ⊥) → (n ≡ 3 → ⊥) → (n ≡ 4 → ⊥) → (n ≡ 6 → ⊥) → (n ≡ 7 → ⊥)
-    → None ≡ call_of (take n l)
-no_count zero l q h2 h3 h4 h6 h7 = refl
-no_count (suc zero) l q h2 h3 h4 h6 h7 = eight (λ (l : List ℕ). None ≡ call_of (take 1 l)) (λ a b c d e f g h. no_fields a) l q
-no_count (suc (suc zero)) l q h2 h3 h4 h6 h7 = absurd (h2 refl)
-no_count (suc (suc (suc zero))) l q h2 h3 h4 h6 h7 = absurd (h3 refl)
-no_count (suc (suc (suc (suc zero)))) l q h2 h3 h4 h6 h7 = absurd (h4 refl)
-no_count (suc (suc (suc (suc (suc zero))))) l q h2 h3 h4 h6 h7 = eight (λ (l : List ℕ). None ≡ call_of (take 5 l)) (λ a b c d e f g h. no_four a b c d e) l q
-no_count (suc (suc (suc (suc (suc (suc zero)))))) l q h2 h3 h4 h6 h7 = absurd (h6 refl)
-no_count (suc (suc (suc (suc (suc (suc (suc zero))))))) l q h2 h3 h4 h6 h7 = absurd (h7 refl)
-no_count (suc (suc (suc (suc (suc (suc (suc (suc n)))))))) l q h2 h3 h4 h6 h7 =
-    eight (λ (l : List ℕ). None ≡ call_of l) (λ a b c d e f g h. no_seven a b c d e f g h []) l q
-    ∙ ap call_of (sym (take_all (suc (suc (suc (suc (suc (suc (suc (suc n)))))))) l (omega (arith, q))))
-
--- nor more numbers than the field reader keeps
+-- nor more than it keeps
 pub no_many : (l : List ℕ) → 8 < length l → None ≡ call_of l
-no_many [] q = absurd (omega (arith, q))
-no_many (a ∷ []) q = absurd (omega (arith, q))
-no_many (a ∷ (b ∷ [])) q = absurd (omega (arith, q))
-no_many (a ∷ (b ∷ (c ∷ []))) q = absurd (omega (arith, q))
-no_many (a ∷ (b ∷ (c ∷ (d ∷ [])))) q = absurd (omega (arith, q))
-no_many (a ∷ (b ∷ (c ∷ (d ∷ (e ∷ []))))) q = absurd (omega (arith, q))
-no_many (a ∷ (b ∷ (c ∷ (d ∷ (e ∷ (f ∷ [])))))) q = absurd (omega (arith, q))
-no_many (a ∷ (b ∷ (c ∷ (d ∷ (e ∷ (f ∷ (g ∷ []))))))) q = absurd (omega (arith, q))
-no_many (a ∷ (b ∷ (c ∷ (d ∷ (e ∷ (f ∷ (g ∷ (h ∷ l)))))))) q = no_seven a b c d e f g h l
+no_many l q = no_eight l (omega (arith, q))
 
 -- the call of the field reader's numbers
 call_numbers_lem : (stop : ℕ) (m : Option (List ℕ)) → call_of (take (with_numbers stop m).count (with_numbers stop m).values) ≡ call_of_numbers m

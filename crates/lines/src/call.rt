@@ -25,140 +25,63 @@ pub fn reading_code(r: Option<Call>) -> u32
     }
 }
 
-// The call with one field.
+// The call of a kind number and its fields, a row for each kind.
 #[tactic(auto, unfolding(crate::specs::CallLines::of_kind))]
-fn with_1(kind: u32, a: u32) -> Option<Call>
-    ensures { result ≡ call_of («kind» ∷ («a» ∷ [])) }
+pub fn call_in(numbers: &[u32]) -> Option<Call>
+    ensures { result ≡ call_of numbers.now }
 {
-    if kind == 6 {
-        return Some(Call::Enter { ticket: a });
+    match *numbers {
+        [1, member, token, amount] => Some(Call::Deposit {
+            member,
+            token,
+            amount,
+        }),
+        [2, member, token, amount] => Some(Call::Withdraw {
+            member,
+            token,
+            amount,
+        }),
+        [3, ticket, member, market, side, limit, amount] => Some(Call::Order {
+            ticket,
+            member,
+            market,
+            side,
+            limit,
+            amount,
+        }),
+        [4, ticket, member] => Some(Call::Cancel { ticket, member }),
+        [5, market, block, reference, slack, length] => Some(Call::Open {
+            market,
+            block,
+            reference,
+            slack,
+            length,
+        }),
+        [6, ticket] => Some(Call::Enter { ticket }),
+        [7, market, block] => Some(Call::Match { market, block }),
+        [8, market, member, block, side, base, bound] => Some(Call::Bid {
+            market,
+            member,
+            block,
+            side,
+            base,
+            bound,
+        }),
+        [9, market, block] => Some(Call::Settle { market, block }),
+        [10, ticket] => Some(Call::Claim { ticket }),
+        [11, ticket, member] => Some(Call::Leave { ticket, member }),
+        _ => None,
     }
-    if kind == 10 {
-        return Some(Call::Claim { ticket: a });
-    }
-    None
-}
-
-// The call with two fields.
-#[tactic(auto, unfolding(crate::specs::CallLines::of_kind))]
-fn with_2(kind: u32, a: u32, b: u32) -> Option<Call>
-    ensures { result ≡ call_of («kind» ∷ («a» ∷ («b» ∷ []))) }
-{
-    if kind == 4 {
-        return Some(Call::Cancel {
-            ticket: a,
-            member: b,
-        });
-    }
-    if kind == 7 {
-        return Some(Call::Match {
-            market: a,
-            block: b,
-        });
-    }
-    if kind == 9 {
-        return Some(Call::Settle {
-            market: a,
-            block: b,
-        });
-    }
-    if kind == 11 {
-        return Some(Call::Leave {
-            ticket: a,
-            member: b,
-        });
-    }
-    None
-}
-
-// The call with three fields.
-#[tactic(auto, unfolding(crate::specs::CallLines::of_kind))]
-fn with_3(kind: u32, a: u32, b: u32, c: u32) -> Option<Call>
-    ensures { result ≡ call_of («kind» ∷ («a» ∷ («b» ∷ («c» ∷ [])))) }
-{
-    if kind == 1 {
-        return Some(Call::Deposit {
-            member: a,
-            token: b,
-            amount: c,
-        });
-    }
-    if kind == 2 {
-        return Some(Call::Withdraw {
-            member: a,
-            token: b,
-            amount: c,
-        });
-    }
-    None
-}
-
-// The call with five fields.
-#[tactic(auto, unfolding(crate::specs::CallLines::of_kind))]
-fn with_5(kind: u32, a: u32, b: u32, c: u32, d: u32, e: u32) -> Option<Call>
-    ensures { result ≡ call_of («kind» ∷ («a» ∷ («b» ∷ («c» ∷ («d» ∷ («e» ∷ [])))))) }
-{
-    if kind == 5 {
-        return Some(Call::Open {
-            market: a,
-            block: b,
-            reference: c,
-            slack: d,
-            length: e,
-        });
-    }
-    None
-}
-
-// The call with six fields.
-#[tactic(auto, unfolding(crate::specs::CallLines::of_kind))]
-fn with_6(kind: u32, a: u32, b: u32, c: u32, d: u32, e: u32, f: u32) -> Option<Call>
-    ensures { result ≡ call_of («kind» ∷ («a» ∷ («b» ∷ («c» ∷ («d» ∷ («e» ∷ («f» ∷ []))))))) }
-{
-    if kind == 3 {
-        return Some(Call::Order {
-            ticket: a,
-            member: b,
-            market: c,
-            side: d,
-            limit: e,
-            amount: f,
-        });
-    }
-    if kind == 8 {
-        return Some(Call::Bid {
-            market: a,
-            member: b,
-            block: c,
-            side: d,
-            base: e,
-            bound: f,
-        });
-    }
-    None
 }
 
 // The call of the numbers that the field reader found. It looks at neither the line's length nor where the reader stopped: read_line does.
 pub fn call_of(f: Fields) -> Option<Call>
     ensures { result ≡ call_of (take f.count f.values) }
 {
-    let v = f.values;
-    if f.count == 2 {
-        return with_1(v[0], v[1]);
+    if f.values.len() < f.count {
+        return None;
     }
-    if f.count == 3 {
-        return with_2(v[0], v[1], v[2]);
-    }
-    if f.count == 4 {
-        return with_3(v[0], v[1], v[2], v[3]);
-    }
-    if f.count == 6 {
-        return with_5(v[0], v[1], v[2], v[3], v[4], v[5]);
-    }
-    if f.count == 7 {
-        return with_6(v[0], v[1], v[2], v[3], v[4], v[5], v[6]);
-    }
-    None
+    call_in(&f.values[..f.count])
 }
 
 // The place of the first byte 10 from a place on, or the end.
@@ -184,16 +107,10 @@ pub fn read_line(bytes: &[u8], from: usize) -> LineAt
     let f = read_fields(bytes, from);
     let end = line_end(bytes, f.stop);
     if f.stop < end {
-        return LineAt {
-            reading: None,
-            end,
-        };
+        return LineAt { reading: None, end };
     }
     if LONGEST_LINE < end - from {
-        return LineAt {
-            reading: None,
-            end,
-        };
+        return LineAt { reading: None, end };
     }
     LineAt {
         reading: call_of(f),

@@ -1,12 +1,18 @@
--- `lines::call::call_of` meets its contract: the numbers counted are the first of the eight values.
-use mathlib.Core.Path.{◌≡◌}
+-- `lines::call::call_of` meets its contract: no call has eight numbers.
+use mathlib.Core.Path.{◌≡◌, sym, subst}
+use mathlib.Core.List.{List}
+use Prim.Native.Nat.{ℕ}
 use borrow.Author.Rules.{rules}
+use native.Mathlib.Omega.{arith}
 use lib.ListN.{length}
-use Rattle.lines.proofs.CallLaws.{no_count}
+use lib.Seq.{take_all}
+use Rattle.std.specs.Prelude.{None}
+use Rattle.lines.specs.CallLines.{call_of}
+use Rattle.lines.proofs.CallLaws.{no_eight}
 use Rattle.lines.proofs.call.call_of.Goals as goal
 
-pub returns : goal.returns
-returns c =
+pub returns-then-f-gt8 : goal.returns-then-f-gt8
+returns-then-f-gt8 c =
     let f = c.args.f in
-    let long : length f.values ≡ 8 = search rules in
-    no_count f.count f.values long c.if-f-eq2.false c.if-f-eq3.false c.if-f-eq4.false c.if-f-eq6.false c.if-f-eq7.false
+    let eight : length f.values ≡ 8 = search rules in
+    subst (λ (ns : List ℕ). None ≡ call_of ns) (sym (take_all f.count f.values (omega (arith, eight, c.if-f-gt8.true)))) (no_eight f.values (omega (arith, eight)))
