@@ -1,19 +1,23 @@
 -- The numbers read byte by byte: `scan` is what the loops of the reader do, and `scan-line` says that it reads what the form of a
 -- line gives.
-use Rattle.std.specs.Prelude.{Some, None, Option}
 use mathlib.Core.Path.{◌≡◌, refl, sym, ap, ◌∙◌, subst}
 use mathlib.Core.Bool.{Bool, true, false, not, cond, ◌&&◌}
 use mathlib.Core.Logic.{◌⊎◌, inl, inr}
 use mathlib.Core.List.{List, [], ◌∷◌, ◌++◌, append_assoc, append-nil}
+use Rattle.std.specs.Prelude.{Some, None, Option}
 use Prim.Native.Nat.{ℕ, suc, ◌+◌, ◌*◌, ◌-◌, ◌≤◌, ◌<◌}
 use native.Mathlib.Omega.{arith}
 use native.Mathlib.Nat.{le_refl, le_trans, not-suc-le-zero}
 use lib.Arith.{lt_of_le-ne}
-use lib.ListN.{length, length-append, take, drop, set, get_or, replicate, drop_of_length-le, take-append-drop}
-use lib.Seq.{drop-cons, drop-set-lt, drop-drop, take-suc-set, length-take-le}
+use lib.ListN.{length, length-append, length-drop, length-set, take, drop, set, get_or, replicate, drop_of_length-le, take-append-drop}
+use lib.Seq.{take_all, drop-cons, drop-set-lt, drop-drop, take-suc-set, length-take-le}
 use native.Mathlib.Numerals.{add-one}
 use lib.Dec.{leb, ltb, eqb}
-use borrow.Author.Tests.{le-leb, lt-leb, lt-ltb, ne_eqb, leb-true, leb-false, ltb-true, eqb-true, eqb-false}
+use borrow.Author.Tests.{le-leb, lt-leb, lt-ltb, ne_eqb, leb-true, leb-false, ltb-true, ltb-false, eqb-true, eqb-false}
+use Rattle.std.specs.Option.{unwrap_or}
+use Rattle.std.specs.List.{slice_range, position_or_len, position}
+use Rattle.std.proofs.lemmas.List.{length-take}
+use Rattle.std.proofs.lemmas.List.Recursion.{is_position_or_len}
 use Rattle.units.specs.Counts.{largest}
 use Rattle.units.proofs.Cases.{false_not_true, by_test, by_order}
 use Rattle.fields.specs.Grammar.{is_digit, all_digits, value_from, is_number, number_of, on_first, parts_of, cons_number, all_numbers}
@@ -252,8 +256,8 @@ long_digit stop Bad k m e f = refl
 long_end : (stop : ℕ) (ns : List ℕ) (v : ℕ) → 8 ≤ length ns → with_numbers stop (Some (ns ++ (v ∷ []))) ≡ no_fields stop
 long_end stop ns v h = rw (lt-leb (length (ns ++ (v ∷ []))) 8 (omega (arith, length-append ns (v ∷ []))))
 
-long : (stop : ℕ) (bs ns : List ℕ) (s : Bool) (v : ℕ) → 8 < length ns → with_numbers stop (scan bs ns s v) ≡ no_fields stop
-long stop [] ns s v h = long_cond stop s _ (long_end stop ns v (omega arith))
+long : (stop : ℕ) (bs ns : List ℕ) (s : Bool) (v : ℕ) → 8 ≤ length ns → with_numbers stop (scan bs ns s v) ≡ no_fields stop
+long stop [] ns s v h = long_cond stop s _ (long_end stop ns v h)
 long stop (b ∷ bs) ns s v h =
     by_test
     (eqb b 44)
@@ -261,7 +265,7 @@ long stop (b ∷ bs) ns s v h =
     (λ e.
     rw e
     (long_digit stop (field_step s v b) (λ w. scan bs ns true w) _ (λ w. long stop bs ns true w h)
-    (long_cond stop s _ (long_end stop ns v (omega arith)))))
+    (long_cond stop s _ (long_end stop ns v h))))
 
 -- ---- what field_step tells of the byte
 
@@ -288,6 +292,30 @@ no_comma b t = ne_eqb b 44 (λ e. absurd (omega (arith, low b t)))
 digit_field : (b : ℕ) → is_digit b ≡ true → is_field_byte b ≡ true
 digit_field b t = rw (no_comma b t) t
 
+-- the place of the first other byte, in the library's words
+abbrev other : ℕ → Bool
+other b = not (is_field_byte b)
+
+passed_over : (b : ℕ) (bs : List ℕ) → length (field_bytes (b ∷ bs)) ≡ cond (other b) 0 (1 + length (field_bytes bs))
+passed_over b bs = by_test (is_field_byte b) (λ e. rw e (omega arith)) (λ e. rw e)
+
+all_passed : (l : List ℕ) → length (field_bytes l) ≡ position_or_len other l
+all_passed = is_position_or_len (λ (l : List ℕ). length (field_bytes l)) other refl passed_over
+
+no_more : (l : List ℕ) → length (field_bytes l) ≤ length l
+no_more [] = le_refl 0
+no_more (b ∷ bs) = by_test (is_field_byte b) (λ e. rw e (omega (arith, no_more bs))) (λ e. rw e (omega arith))
+
+found : (l : List ℕ) → unwrap_or (position other l) (length l) ≡ length (field_bytes l)
+found l =
+    by_test
+    (ltb (position_or_len other l) (length l))
+    (λ e. rw e (sym (all_passed l)))
+    (λ e. rw e (omega (arith, no_more l, all_passed l, ltb-false (position_or_len other l) (length l) e)))
+
+pub found_within : (l : List ℕ) (r : Option ℕ) → r ≡ position other l → unwrap_or r (length l) ≤ length l
+found_within l r e = rw (e, found l) (no_more l)
+
 -- ---- steps of the reader, at index i of the bytes l
 
 module _ (l : List ℕ) (i : ℕ) where
@@ -299,7 +327,14 @@ module _ (l : List ℕ) (i : ℕ) where
   unfolding fields_end
   end_here h e = rw (drop-cons l i 0 h, e) (omega arith)
 
-  end_past : length l ≤ i → fields_end l i ≡ i
+  pub end_found : (bs : List ℕ) (r : Option ℕ) → bs ≡ slice_range l i (length l) → r ≡ position other bs
+      → i + unwrap_or r (length bs) ≡ fields_end l i
+  unfolding fields_end
+  end_found bs r e f =
+      let whole : bs ≡ drop i l = e ∙ take_all (length l - i) (drop i l) (omega (arith, length-drop i l)) in
+      rw (f, found bs, whole)
+
+  pub end_past : length l ≤ i → fields_end l i ≡ i
   unfolding fields_end
   end_past h = rw (drop_of_length-le l {i = i} h) (omega arith)
 
@@ -393,15 +428,9 @@ module _ (l : List ℕ) (i : ℕ) (ns : List ℕ) (v : ℕ) where
       let c : eqb (get_or l i 0) 44 ≡ false = comma_not l i h.0 e in
       rw (end_stop l i (inr h) e, drop-cons l i 0 h.0, c, no_digit true v _ h.1)
 
-  pub ninth_field : 8 ≤ length ns → Ends l i → rest l i ns true v ≡ no_fields (fields_end l i)
-  ninth_field n (inl h) = rw (drop_of_length-le l {i = i} h) (long_end (fields_end l i) ns v n)
-  ninth_field n (inr h) =
-      let m = ns ++ (v ∷ []) in
-      rw (drop-cons l i 0 h.0, no_digit true v _ h.1)
-      (by_test
-      (eqb (get_or l i 0) 44)
-      (λ e. rw e (long (fields_end l i) (drop (suc i) l) m false 0 (omega (arith, length-append ns (v ∷ [])))))
-      (λ e. rw e (long_end (fields_end l i) ns v n)))
+-- after eight numbers there is none
+pub full : (l : List ℕ) (i : ℕ) (ns : List ℕ) (s : Bool) (v : ℕ) → 8 ≤ length ns → rest l i ns s v ≡ no_fields (fields_end l i)
+full l i ns s v h = long (fields_end l i) (drop i l) ns s v h
 
 -- the eight places: those from count on are 0, and v goes to place count
 module _ (vs : List ℕ) (count v : ℕ) (room : count < 8) (eight : length vs ≡ 8) (zeros : drop count vs ≡ replicate (8 - count) 0) where
@@ -427,3 +456,56 @@ module _ (vs : List ℕ) (count v : ℕ) (room : count < 8) (eight : length vs �
       ∙ ap (λ (x : List ℕ). take (count + 1) (set vs count v) ++ x) (sym stored_rest)
       ∙ take-append-drop (count + 1) (set vs count v) in
       rw (le-leb (length t) 8 (omega (arith, l)), l, all)
+
+-- ---- the reader at index i: count of the values are read, and the field that s and v say has begun
+
+pub record Reads (bytes : List ℕ) (from : ℕ) (values : List ℕ) (count i : ℕ) (s : Bool) (v : ℕ) : Type 0 where
+  pub eight : length values ≡ 8
+  pub most : count ≤ 8
+  pub zeros : drop count values ≡ replicate (8 - count) 0
+  pub text : fields_at bytes from ≡ rest bytes i (take count values) s v
+
+pub reads_start : (bytes : List ℕ) (from : ℕ) → Reads bytes from (replicate 8 0) 0 from false 0
+reads_start bytes from = record { eight = refl; most = omega arith; zeros = refl; text = at_start bytes from }
+
+module _ {bytes : List ℕ} {from : ℕ} {values : List ℕ} {count i : ℕ} where
+  pub reads_first : Reads bytes from values count i false 0 → (w : ℕ) → first_step bytes i ≡ Value w
+      → Reads bytes from values count (i + 1) true w
+  reads_first r w e =
+      record { eight = r.eight; most = r.most; zeros = r.zeros; text = r.text ∙ first_digit bytes i (take count values) w e }
+
+  pub reads_none : Reads bytes from values count i false 0
+      → ((k : ℕ → Option (List ℕ)) → on_step (first_step bytes i) k None ≡ None) → no_fields (fields_end bytes i) ≡ fields_at bytes from
+  reads_none r e = sym (r.text ∙ no_first bytes i (take count values) e)
+
+  pub reads_full : Reads bytes from values count i false 0 → 8 ≤ count → no_fields (fields_end bytes i) ≡ fields_at bytes from
+  reads_full r h = sym (r.text ∙ full bytes i (take count values) false 0 (omega (arith, length-take count values, r.eight)))
+
+  module _ {v : ℕ} (r : Reads bytes from values count i true v) where
+    pub reads_digit : i < length bytes → (w : ℕ) → field_step true v (get_or bytes i 0) ≡ Value w
+        → Reads bytes from values count (i + 1) true w
+    reads_digit h w e =
+        record { eight = r.eight; most = r.most; zeros = r.zeros; text = r.text ∙ digit_step bytes i (take count values) true v h w e }
+
+    pub reads_bad : i < length bytes → field_step true v (get_or bytes i 0) ≡ Bad → no_fields (fields_end bytes i) ≡ fields_at bytes from
+    reads_bad h e = sym (r.text ∙ digit_bad bytes i (take count values) true v h e)
+
+    pub reads_comma : count < 8 → comma_at bytes i ≡ true → Reads bytes from (set values count v) (count + 1) (i + 1) false 0
+    reads_comma room e =
+        record {
+          eight = length-set values count v ∙ r.eight;
+          most = omega arith;
+          zeros = stored_rest values count v room r.eight r.zeros;
+          text =
+              r.text
+              ∙ comma_step bytes i (take count values) v e
+              ∙ rw (stored_front values count v room r.eight r.zeros);
+        }
+
+    pub reads_last : count < 8 → Ends bytes i → comma_at bytes i ≡ false
+        → ◌≡◌ {A = Fields} (record { count = count + 1; values = set values count v; stop = i }) (fields_at bytes from)
+    reads_last room ended e =
+        stored_fields values count v room r.eight r.zeros i ∙ sym (r.text ∙ last_field bytes i (take count values) v ended e)
+
+-- what the reader's loops need
+pub ruleset reading = (first_in, comma_in, reads_start, reads_first, reads_digit, reads_bad)

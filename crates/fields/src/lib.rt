@@ -1,12 +1,12 @@
 // The field reader: the numbers of a line, read where it lies.
 #![tactic(auto)]
 
-ghost use Rattle.std.specs.Prelude.{◌≡◌};
-ghost use Rattle.fields.specs.Grammar.{is_digit};
-ghost use Rattle.fields.specs.Fields.{comma_at, field_step, first_step, fields_end, fields_at};
+ghost use Rattle.std.specs.Prelude.{◌≡◌, None, not, position};
+ghost use Rattle.fields.specs.Fields.{comma_at, field_step, first_step, is_field_byte, fields_end, with_numbers, fields_at};
 
 // The numbers that a line begins with, the kind and its fields, and the place where the reader stopped: count of the values are numbers,
-// and the others are 0. count is 0 and values are 0 where a field is no number or there are more than MOST_NUMBERS.
+// and the others are 0. count is 0 and values are 0 where a field is no number or there are more than MOST_NUMBERS. read_fields promises all
+// eight values (with_numbers), of which a vector of fixed capacity shows the first count alone.
 #[derive(Clone, Copy)]
 pub struct Fields {
     pub count: usize,
@@ -14,13 +14,11 @@ pub struct Fields {
     pub stop: usize,
 }
 
-// The largest number of document 01.
-const LARGEST: u64 = 4_294_967_295;
-
 // More than any kind has.
 const MOST_NUMBERS: usize = 8;
 
-// A field's value with one byte more: it is a digit, or the field ends before it, or the field is no number.
+// A field's value with one byte more: it is a digit, or the field ends before it, or the field is no number. Of these three, field_step
+// (specs/Fields.antt) tells each.
 #[derive(Clone, Copy)]
 pub enum FieldStep {
     Value(u32),
@@ -28,37 +26,21 @@ pub enum FieldStep {
     Bad,
 }
 
-// Whether a byte is a digit.
-fn is_digit(b: u8) -> bool
-    ensures { result ≡ is_digit b }
-{
-    if b < b'0' {
-        return false;
-    }
-    b <= b'9'
-}
-
 // The byte b after a field's value. started says that the field has a digit already.
 #[tactic(auto, unfolding(crate::specs::Fields::field_step))]
 fn field_step(started: bool, value: u32, b: u8) -> FieldStep
     ensures { result ≡ field_step started value b }
 {
-    if b < b'0' {
+    if !matches!(b, b'0'..=b'9') {
         return FieldStep::End;
     }
-    if b'9' < b {
-        return FieldStep::End;
-    }
-    if started {
-        if value == 0 {
-            return FieldStep::Bad;
-        }
-    }
-    let next = (value as u64) * 10 + ((b - b'0') as u64);
-    if LARGEST < next {
+    if started && value == 0 {
         return FieldStep::Bad;
     }
-    FieldStep::Value(next as u32)
+    match u32::try_from(u64::from(value) * 10 + u64::from(b - b'0')) {
+        Ok(next) => FieldStep::Value(next),
+        Err(_) => FieldStep::Bad,
+    }
 }
 
 // The byte at a place as a field's first. The field is empty where that is no digit, and at the bytes' end.
@@ -66,10 +48,10 @@ fn field_step(started: bool, value: u32, b: u8) -> FieldStep
 fn first_step(bytes: &[u8], at: usize) -> FieldStep
     ensures { result ≡ first_step bytes.now at }
 {
-    if at < bytes.len() {
-        return field_step(false, 0, bytes[at]);
+    match bytes.get(at) {
+        Some(b) => field_step(false, 0, *b),
+        None => FieldStep::End,
     }
-    FieldStep::End
 }
 
 // Whether a comma stands at a place.
@@ -77,84 +59,69 @@ fn first_step(bytes: &[u8], at: usize) -> FieldStep
 fn comma_at(bytes: &[u8], at: usize) -> bool
     ensures { result ≡ comma_at bytes.now at }
 {
-    if at < bytes.len() {
-        return bytes[at] == b',';
-    }
-    false
+    bytes.get(at) == Some(&b',')
+}
+
+// The place of the first byte that is neither digit nor comma.
+fn first_other(bytes: &[u8]) -> Option<usize>
+    ensures { result ≡ position (λ b. not (is_field_byte b)) bytes.now }
+{
+    bytes.iter().position(|b| !matches!(*b, b'0'..=b'9' | b','))
 }
 
 // The place of the first byte from a place on that is neither digit nor comma, or the end.
+#[tactic(auto, using(crate::proofs::Scan::end_found, crate::proofs::Scan::found_within, crate::proofs::Scan::end_past))]
 fn fields_end(bytes: &[u8], from: usize) -> usize
     ensures { result ≡ fields_end bytes.now from }
 {
-    let mut i = from;
-    'line: loop {
-        while i < bytes.len() {
-            if !is_digit(bytes[i]) {
-                break;
-            }
-            i = i + 1;
-        }
-        if !comma_at(bytes, i) {
-            break 'line;
-        }
-        i = i + 1;
+    match bytes.get(from..) {
+        Some(rest) => from + first_other(rest).unwrap_or(rest.len()),
+        None => from,
     }
-    i
 }
 
-// Reads fields from a place on: "The field reader stops at the first byte that is neither digit nor comma".
-pub fn read_fields(bytes: &[u8], from: usize) -> Fields
-    ensures { result ≡ fields_at bytes.now from }
+// No numbers from a place on, where the reader stops all the same.
+fn no_fields(bytes: &[u8], from: usize) -> Fields
+    ensures { result ≡ with_numbers (fields_end bytes.now from) None }
 {
-    let mut values = [0u32; 8];
-    let mut count: usize = 0;
-    let n = bytes.len();
-    let mut i = from;
-    let mut good = false;
-    'line: loop {
-        // a field: its first digit, then the others up to the byte after them
-        let FieldStep::Value(first) = first_step(bytes, i) else {
-            break 'line;
-        };
-        let mut value = first;
-        i = i + 1;
-        while i < n {
-            let d = field_step(true, value, bytes[i]);
-            match d {
-                FieldStep::Value(next) => {
-                    value = next;
-                }
-                FieldStep::End => {
-                    break;
-                }
-                FieldStep::Bad => {
-                    break 'line;
-                }
-            }
-            i = i + 1;
-        }
-        if count == MOST_NUMBERS {
-            break 'line;
-        }
-        values[count] = value;
-        count = count + 1;
-        if !comma_at(bytes, i) {
-            good = true;
-            break 'line;
-        }
-        i = i + 1;
-    }
-    if good {
-        return Fields {
-            count,
-            values,
-            stop: i,
-        };
-    }
     Fields {
         count: 0,
         values: [0; 8],
-        stop: fields_end(bytes, i),
+        stop: fields_end(bytes, from),
     }
+}
+
+// Reads fields from a place on: "The field reader stops at the first byte that is neither digit nor comma".
+#[tactic(auto, using(crate::proofs::Scan::reading))]
+pub fn read_fields(bytes: &[u8], from: usize) -> Fields
+    ensures { result ≡ fields_at bytes.now from }
+{
+    let mut values = [0; 8];
+    let mut i = from;
+    for count in 0..MOST_NUMBERS {
+        // a field: its first digit, then the others up to the byte after them
+        let FieldStep::Value(first) = first_step(bytes, i) else {
+            return no_fields(bytes, i);
+        };
+        let mut value = first;
+        i += 1;
+        'digits: while let Some(b) = bytes.get(i) {
+            match field_step(true, value, *b) {
+                FieldStep::Value(next) => value = next,
+                FieldStep::End => break 'digits,
+                FieldStep::Bad => return no_fields(bytes, i),
+            }
+            i += 1;
+        }
+        values[count] = value;
+        if !comma_at(bytes, i) {
+            return Fields {
+                count: count + 1,
+                values,
+                stop: i,
+            };
+        }
+        i += 1;
+    }
+    no_fields(bytes, i)
 }
