@@ -2,7 +2,7 @@
 // bytes of the part after the call, # where nothing was written; a comma; and the answer. Its stored output is the second engine's (tests/stored).
 #![tactic(auto)]
 
-ghost use Rattle.std.specs.Prelude.{◌+◌, ◌≤◌, length};
+ghost use Rattle.std.specs.Prelude.{◌≤◌, length};
 
 use decimal::{put_number, wide, write_field};
 use std::io::{self, Write};
