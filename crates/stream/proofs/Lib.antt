@@ -1,4 +1,3 @@
-pub mod Text
 pub mod OneLine
 pub mod Ended
 pub mod Examples

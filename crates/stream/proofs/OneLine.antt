@@ -1,10 +1,11 @@
 -- One line of a piece: where it ends, what is kept of it, and its answer put into the buffer.
 use mathlib.Core.Path.{◌≡◌, sym, ap, ◌∙◌}
 use mathlib.Core.List.{List, [], ◌++◌}
-use Prim.Native.Nat.{ℕ, ◌+◌, ◌≤◌, ◌<◌}
+use Prim.Native.Nat.{ℕ, ◌+◌, ◌≤◌, ◌<◌, min}
 use native.Mathlib.Nat.{zero-add}
 use native.Mathlib.Omega.{arith}
 use lib.ListN.{length, take}
+use Rattle.std.proofs.lemmas.List.{take_min}
 use Rattle.decimal.specs.Buffer.{put_count, put_into}
 use Rattle.decimal.proofs.Put.{put_short, put_at_lem, count_fits}
 use Rattle.model.specs.declared.answer.Outcome.{Outcome}
@@ -31,7 +32,10 @@ module _ (d : Day) (input : List ℕ) (places : length d.line ≡ kept_bytes) (l
   inside = omega (arith, ends, line_within input)
 
   -- the line that is kept
-  module _ (before : ℕ) (same : take before d.line ≡ take d.len d.line) (k : Kept) (line_value : take k.len k.line ≡ take kept_bytes (take before d.line ++ take end input)) where
+  module _ (before : ℕ) (is_before : before ≡ min d.len kept_bytes) (k : Kept) (line_value : take k.len k.line ≡ take kept_bytes (take before d.line ++ take end input)) where
+    same : take before d.line ≡ take d.len d.line
+    same = rw (is_before, ← places) (take_min d.len d.line)
+
     kept : take k.len k.line ≡ take kept_bytes (take d.len d.line ++ take end input)
     kept = line_value ∙ ap (λ (l : List ℕ). take kept_bytes (l ++ take end input)) same
 

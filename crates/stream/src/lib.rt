@@ -8,7 +8,7 @@ ghost use Rattle.lines.specs.Kept.{kept_bytes};
 ghost use Rattle.model.specs.Run.{Reachable};
 ghost use Rattle.replay.specs.Days.{last_line};
 ghost use Rattle.replay.specs.Pieces.{stream_of, FedBy, last_bytes};
-ghost use Rattle.stream.specs.Lines.{LineEnded};
+ghost use Rattle.stream.specs.Lines.{LineEnded, Unbroken};
 
 use in_place::whole_lines;
 use lines::answer::LONGEST_ANSWER;
@@ -57,46 +57,30 @@ pub fn finish(d: Day, out: &mut [u8]) -> Fed
 }
 
 // Takes the input's bytes up to the end of the line that has begun, and answers it where it ends; nothing where its answer does not fit.
+#[tactic(auto, using(lines::proofs::CallLaws::line_within))]
 fn one_line(d: Day, input: &[u8], out: &mut [u8]) -> Fed
     requires reachable { Reachable d.exchange }
     requires done_lt_last_line { d.done < last_line }
     ensures { FedBy d input.now out.old out.new result }
 {
-    let mut before = d.len;
-    if KEPT_BYTES < before {
-        before = KEPT_BYTES;
-    }
-    let begun = d.line;
     let end = line_end(input, 0);
-    let kept = keep(begun, before, input, end);
+    let kept = keep(d.line, d.len.min(KEPT_BYTES), input, end);
     let line = kept.line;
-    let len = kept.len;
-    let exchange = d.exchange;
-    let done = d.done;
+    let begun = Day {
+        len: kept.len,
+        line,
+        ..d
+    };
     if end == input.len() {
-        let day = Day {
-            exchange,
-            done,
-            len,
-            line,
-        };
         return Fed {
-            day,
+            day: begun,
             used: end,
             wrote: 0,
         };
     }
-    let unbegun = Day {
-        exchange,
-        done,
-        len: 0,
-        line,
-    };
     let mut text = [0; LONGEST_ANSWER];
-    let r = end_line(unbegun, len, &mut text);
-    let day = r.day;
-    let count = r.wrote;
-    let wrote = put_text(out, &text[..count]);
+    let ended = end_line(Day { len: 0, ..begun }, kept.len, &mut text);
+    let wrote = put_text(out, &text[..ended.wrote]);
     if wrote == 0 {
         return Fed {
             day: d,
@@ -105,7 +89,7 @@ fn one_line(d: Day, input: &[u8], out: &mut [u8]) -> Fed
         };
     }
     Fed {
-        day,
+        day: ended.day,
         used: end + 1,
         wrote,
     }
@@ -120,30 +104,35 @@ fn end_line(d: Day, len: usize, out: &mut [u8]) -> Fed
     requires longest_answer_in_bounds { longest_answer ≤ length out.old }
     ensures { LineEnded d (take len d.line) out.new result }
 {
-    let line = d.line;
-    let mut n = line_end(&line[..len], 0);
-    // a day of the host's own making: bytes with byte 10 among them are no call, as no bytes are
-    if n < len {
-        n = 0;
-    }
+    let line = unbroken(&d.line[..len]);
+    let n = line.len();
     let mut ended = [0; 82];
-    put_text(&mut ended, &line[..n]);
+    ended[..n].copy_from_slice(line);
     ended[n] = b'\n';
     whole_lines(d, &ended[..n + 1], out)
 }
 
+// A line's text, or none of it where byte 10 is among its bytes, as on a day of the host's own making: it is no call then, as no bytes are.
+#[tactic(auto, using(crate::proofs::Ended::broken))]
+fn unbroken(text: &[u8]) -> &[u8]
+    ensures { Unbroken text.now result.now }
+{
+    if line_end(text, 0) < text.len() {
+        return &text[..0];
+    }
+    text
+}
+
 // Writes a text at the start of out and answers its length: 0, with out unchanged, where out is too short.
+#[tactic(auto, unfolding(decimal::specs::Buffer::put_at, decimal::specs::Buffer::put_into, decimal::specs::Buffer::put_count))]
 pub fn put_text(out: &mut [u8], text: &[u8]) -> usize
     ensures value { result ≡ put_count out.old text.now }
     ensures out_after { out.new ≡ put_into out.old text.now }
 {
-    if out.len() < text.len() {
+    let n = text.len();
+    if out.len() < n {
         return 0;
     }
-    let mut i: usize = 0;
-    while i < text.len() {
-        out[i] = text[i];
-        i = i + 1;
-    }
-    i
+    out[..n].copy_from_slice(text);
+    n
 }
