@@ -45,6 +45,7 @@ fn on_market(x: &mut Exchange, market: u32, member: u32, block: Block, act: Mark
 }
 
 // Work on a ticket and its market.
+#[tactic(auto, using(crate::proofs::Works::ticket_in))]
 fn on_entry(x: &mut Exchange, ticket: u32, act: EntryAct) -> Answer
     requires { Reachable x.old × PlacesExist (Entry ticket act) }
     ensures { record { answer = result; exchange = x.new } ≡ work_done x.old (Ok (Entry ticket act)) }
@@ -60,6 +61,7 @@ fn on_entry(x: &mut Exchange, ticket: u32, act: EntryAct) -> Answer
 }
 
 // Work on a ticket, its market, its member's row and the residue of the market's two tokens.
+#[tactic(auto, using(crate::proofs::Works::ticket_in))]
 fn on_claim(x: &mut Exchange, ticket: u32) -> Answer
     requires { Reachable x.old × PlacesExist (Claim ticket) }
     ensures { record { answer = result; exchange = x.new } ≡ work_done x.old (Ok (Claim ticket)) }
@@ -84,7 +86,7 @@ fn on_claim(x: &mut Exchange, ticket: u32) -> Answer
 }
 
 // One call on a state lent to it: its answer. x is then the state after it.
-#[tactic(auto, using(crate::proofs::Works::work_places, crate::proofs::Works::work_step, crate::proofs::Works::no_work_step))]
+#[tactic(auto, using(crate::proofs::Works::no_work_step))]
 pub fn apply(x: &mut Exchange, c: Call) -> Answer
     requires { Reachable x.old }
     ensures { record { answer = result; exchange = x.new } ≡ step_of x.old c }
@@ -119,6 +121,7 @@ pub fn step(x: Exchange, c: Call) -> Outcome
 }
 
 // 1 Deposit.
+#[tactic(auto, unfolding(model::specs::Run::step_of, model::specs::Calls::deposit_of))]
 pub fn deposit(x: Exchange, member: u32, token: u32, amount: u32) -> Outcome
     requires { Reachable x }
     ensures { result ≡ deposit_of x member token amount }
@@ -134,6 +137,7 @@ pub fn deposit(x: Exchange, member: u32, token: u32, amount: u32) -> Outcome
 }
 
 // 2 Withdraw.
+#[tactic(auto, unfolding(model::specs::Run::step_of, model::specs::Calls::withdraw_of))]
 pub fn withdraw(x: Exchange, member: u32, token: u32, amount: u32) -> Outcome
     requires { Reachable x }
     ensures { result ≡ withdraw_of x member token amount }
@@ -149,6 +153,7 @@ pub fn withdraw(x: Exchange, member: u32, token: u32, amount: u32) -> Outcome
 }
 
 // 3 Order.
+#[tactic(auto, unfolding(model::specs::Run::step_of, model::specs::Calls::order_of))]
 pub fn order(
     x: Exchange,
     ticket: u32,
@@ -175,6 +180,7 @@ pub fn order(
 }
 
 // 4 Cancel.
+#[tactic(auto, unfolding(model::specs::Run::step_of, model::specs::Calls::cancel_of))]
 pub fn cancel(x: Exchange, ticket: u32, member: u32) -> Outcome
     requires { Reachable x }
     ensures { result ≡ cancel_of x ticket member }
@@ -183,6 +189,7 @@ pub fn cancel(x: Exchange, ticket: u32, member: u32) -> Outcome
 }
 
 // 5 Open.
+#[tactic(auto, unfolding(model::specs::Run::step_of, model::specs::Calls::open_of))]
 pub fn open(
     x: Exchange,
     market: u32,
@@ -207,6 +214,7 @@ pub fn open(
 }
 
 // 6 Enter.
+#[tactic(auto, unfolding(model::specs::Run::step_of, model::specs::Calls::enter_of))]
 pub fn enter(x: Exchange, ticket: u32) -> Outcome
     requires { Reachable x }
     ensures { result ≡ enter_of x ticket }
@@ -215,6 +223,7 @@ pub fn enter(x: Exchange, ticket: u32) -> Outcome
 }
 
 // 7 Match.
+#[tactic(auto, unfolding(model::specs::Run::step_of, model::specs::Calls::match_of))]
 pub fn match_round(x: Exchange, market: u32, block: u32) -> Outcome
     requires { Reachable x }
     ensures { result ≡ match_of x market block }
@@ -223,6 +232,7 @@ pub fn match_round(x: Exchange, market: u32, block: u32) -> Outcome
 }
 
 // 8 Bid.
+#[tactic(auto, unfolding(model::specs::Run::step_of, model::specs::Calls::bid_of))]
 pub fn bid(
     x: Exchange,
     market: u32,
@@ -249,6 +259,7 @@ pub fn bid(
 }
 
 // 9 Settle.
+#[tactic(auto, unfolding(model::specs::Run::step_of, model::specs::Calls::settle_of))]
 pub fn settle(x: Exchange, market: u32, block: u32) -> Outcome
     requires { Reachable x }
     ensures { result ≡ settle_of x market block }
@@ -257,6 +268,7 @@ pub fn settle(x: Exchange, market: u32, block: u32) -> Outcome
 }
 
 // 10 Claim.
+#[tactic(auto, unfolding(model::specs::Run::step_of, model::specs::Calls::claim_of))]
 pub fn claim(x: Exchange, ticket: u32) -> Outcome
     requires { Reachable x }
     ensures { result ≡ claim_of x ticket }
@@ -265,6 +277,7 @@ pub fn claim(x: Exchange, ticket: u32) -> Outcome
 }
 
 // 11 Leave.
+#[tactic(auto, unfolding(model::specs::Run::step_of, model::specs::Calls::leave_of))]
 pub fn leave(x: Exchange, ticket: u32, member: u32) -> Outcome
     requires { Reachable x }
     ensures { result ≡ leave_of x ticket member }
