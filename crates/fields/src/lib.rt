@@ -14,6 +14,9 @@ pub struct Fields {
     pub stop: usize,
 }
 
+// "At most 80 bytes before byte 10".
+pub const LONGEST_LINE: usize = 80;
+
 // More than any kind has.
 const MOST_NUMBERS: usize = 8;
 

@@ -19,7 +19,7 @@ ghost use Rattle.model.specs.declared.state.Exchange.{Exchange};
 ghost use Rattle.model.specs.declared.orders.OrderFields.{OrderFields};
 ghost use Rattle.replay.specs.Lines.{line_text, taken_of};
 
-use fields::read_fields;
+use fields::{LONGEST_LINE, read_fields};
 use lent::{place_orders_lent, step_lent, take_line_lent};
 use lines::answer::{LONGEST_ANSWER, write_answer};
 use lines::call::read_call;
@@ -31,9 +31,6 @@ use replay::line::Answered;
 use std::io::{self, Write};
 use std::marker::Model;
 use std::time::Clock;
-
-// The most bytes of a line before its byte 10.
-const LONGEST_LINE: usize = 80;
 
 // One more than an order list may have.
 const MOST_PLACES: usize = 65;

@@ -3,7 +3,7 @@ ghost use Rattle.std.specs.Prelude.{◌≡◌, ◌+◌, [], ◌∷◌, length, d
 ghost use Rattle.lines.specs.CallLines.{call_of, reading_of, line_in, line_at};
 ghost use Rattle.lines.specs.ReadingCode.{reading_code, Tells};
 
-use fields::{Fields, read_fields};
+use fields::{Fields, LONGEST_LINE, read_fields};
 use model::call::Call;
 
 // A line of an input: the call that it is, or no call (20); and the place where it ends: that of its byte 10, or the input's end.
@@ -12,8 +12,6 @@ pub struct LineAt {
     pub reading: Option<Call>,
     pub end: usize,
 }
-
-const LONGEST_LINE: usize = 80;
 
 // The paper's number of a reading: 0 where it is a call, 20 where it is none.
 pub fn reading_code(r: Option<Call>) -> u32

@@ -17,7 +17,7 @@ ghost use Rattle.fields.specs.Grammar.{line_numbers};
 ghost use Rattle.postings.specs.Lines.{fresh_books, answered, posted_of, code_of, amount_of, posted_text};
 
 use decimal::write_field;
-use fields::read_fields;
+use fields::{LONGEST_LINE, read_fields};
 use ledger::{
     Entry, Ledger, Row, balance, credit, credit_row, debit, debit_row, entry_amount, entry_code,
     fresh, row_of,
@@ -25,9 +25,6 @@ use ledger::{
 use std::io::{self, Write};
 use std::time::Clock;
 use units::Amount;
-
-// The most bytes of a line before its byte 10.
-const LONGEST_LINE: usize = 80;
 
 // The longest answer: three numbers of ten digits, two commas and byte 10.
 const LONGEST_ANSWER: usize = 33;
