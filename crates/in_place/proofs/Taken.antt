@@ -3,6 +3,7 @@ use mathlib.Core.Path.{◌≡◌, sym, ap, ◌∙◌, subst}
 use mathlib.Core.List.{List, []}
 use Prim.Native.Nat.{ℕ, ◌+◌, ◌-◌, ◌≤◌, ◌<◌}
 use borrow.Rule.Slice.PartMut.{put_mid}
+use native.Mathlib.Omega.{arith}
 use lib.ListN.{length, take, drop}
 use Rattle.decimal.specs.Buffer.{put_at, put_count, put_into}
 use Rattle.decimal.proofs.Put.{put_part}
@@ -19,7 +20,7 @@ use Rattle.replay.proofs.StreamLaws.{begun, line_end_is, line_read_is}
 use Rattle.replay.proofs.FeedLaws.{SoFar, so_far_line}
 use Rattle.replay.specs.Days.{last_line}
 use Rattle.replay.specs.Pieces.{Stream}
-use Rattle.in_place.proofs.Turn.{line_whole, one_more, part_count, room_for, turn_less}
+use Rattle.in_place.proofs.Turn.{line_whole, part_count, room_for, turn_less}
 
 -- the line read at i, which ends before the input does
 module _ (input : List ℕ) (i : ℕ) (l : LineAt) (read : l ≡ line_at input i) where
@@ -34,7 +35,7 @@ module _ (input : List ℕ) (i : ℕ) (l : LineAt) (read : l ≡ line_at input i
     whole = line_whole input i l.end ends inside other
 
     pub taken_more : l.end + 1 ≤ length input
-    taken_more = one_more _ _ whole
+    taken_more = omega (arith, whole)
 
     pub left_less : length input - (l.end + 1) < length input - i
     left_less = turn_less input i l.end ends whole

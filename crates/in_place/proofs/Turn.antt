@@ -14,10 +14,6 @@ use Rattle.replay.specs.Days.{last_line}
 use Rattle.replay.proofs.FeedLaws.{SoFar, so_far_length, none_taken}
 use Rattle.replay.proofs.StreamLaws.{begun, line_inside}
 
--- a market's place
-pub market_in : (n : ℕ) → 0 < n → n < 4 → n - 1 < 3
-market_in n h k = omega arith
-
 -- the line lies whole in the input
 module _ (input : List ℕ) (i end : ℕ) (ends : end ≡ i + length (line_in (drop i input))) where
   pub line_whole : i ≤ length input → (end ≡ length input → ⊥) → end < length input
@@ -25,12 +21,6 @@ module _ (input : List ℕ) (i end : ℕ) (ends : end ≡ i + length (line_in (d
 
   pub turn_less : end < length input → length input - (end + 1) < length input - i
   turn_less whole = omega (arith, ends, whole)
-
-pub one_more : (m n : ℕ) → m < n → m + 1 ≤ n
-one_more m n h = omega arith
-
-pub succ_less : (m n : ℕ) → m < n → m + 1 < n + 1
-succ_less m n h = omega arith
 
 -- there is room for its answer
 pub room_for : (at all text : ℕ) → at ≤ all → longest_answer ≤ all - at → text ≤ longest_answer → at + text ≤ all

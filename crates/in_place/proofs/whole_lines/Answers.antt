@@ -14,40 +14,37 @@ use Rattle.in_place.proofs.whole_lines.Goals.{then-loop-i-test+then-done-lt-LAST
 pub overflow_add-at : goal.overflow_add-at
 overflow_add-at c =
     let l = c.loop-i in
-    let same : length l.out ≡ length c.args.out.now = so_far_length _ _ _ _ _ _ _ l.invariant.so_far in
-    let r = place_fits c.args.input.now l.i c.read_line-l.result c.read_line-l.ensures.value l.invariant.in_input c.if-l-input.false
-    l.exchange l.invariant.reachable l.done l.at l.out _ c.apply_reading-answer.ensures
-    (omega (arith, same, l.invariant.so_far.room)) c.if-out-at-ge-LONGEST_ANSWER.true c.write_answer-at.ensures.a_len_bound
-    c.write_answer-at.result c.write_answer-at.new.out c.write_answer-at.ensures.value c.write_answer-at.ensures.out_after in
-    omega (arith, r)
+    let v = l.invariant in
+    let w = c.write_answer-at in
+    let same : length l.out ≡ length c.args.out.now = so_far_length _ _ _ _ _ _ _ v.so_far in
+    let fits : l.at ≤ length l.out = omega (arith, same, v.so_far.room) in
+    omega (
+      arith,
+      place_fits _ _ _ c.read_line-l.ensures.value v.in_input c.if-l-input.false l.exchange v.reachable l.done l.at l.out _ c.apply_reading-answer.ensures
+          fits c.if-out-at-ge-LONGEST_ANSWER.true w.ensures.a_len_bound w.result w.new.out w.ensures.value w.ensures.out_after,
+    )
 
 pub overflow_add-i : goal.overflow_add-i
-overflow_add-i c =
-    let l = c.loop-i in
-    omega (arith, whole c.args.input.now l.i c.read_line-l.result c.read_line-l.ensures.value l.invariant.in_input c.if-l-input.false)
-
-pub loop-i-smaller : goal.loop-i-smaller
-loop-i-smaller c =
-    let l = c.loop-i in
-    left_less c.args.input.now l.i c.read_line-l.result c.read_line-l.ensures.value l.invariant.in_input c.if-l-input.false
+overflow_add-i c = omega (arith, whole _ _ _ c.read_line-l.ensures.value c.loop-i.invariant.in_input c.if-l-input.false)
 
 pub loop-i-preserved : goal.loop-i-preserved
 loop-i-preserved c =
     let l = c.loop-i in
+    let v = l.invariant in
     let w = c.write_answer-at in
-    let same : length l.out ≡ length c.args.out.now = so_far_length _ _ _ _ _ _ _ l.invariant.so_far in
-    let fits : l.at ≤ length l.out = omega (arith, same, l.invariant.so_far.room) in
+    let read = c.read_line-l.ensures.value in
+    let same : length l.out ≡ length c.args.out.now = so_far_length _ _ _ _ _ _ _ v.so_far in
+    let fits : l.at ≤ length l.out = omega (arith, same, v.so_far.room) in
     record {
-      in_input = taken_more c.args.input.now l.i c.read_line-l.result c.read_line-l.ensures.value l.invariant.in_input c.if-l-input.false;
+      in_input = taken_more _ _ _ read v.in_input c.if-l-input.false;
       reachable =
-          next_reachable c.args.input.now l.i c.read_line-l.result c.read_line-l.ensures.value l.invariant.in_input c.if-l-input.false
-          l.exchange l.invariant.reachable l.done l.at l.out _ c.apply_reading-answer.ensures fits c.if-out-at-ge-LONGEST_ANSWER.true w.ensures.a_len_bound;
+          next_reachable _ _ _ read v.in_input c.if-l-input.false l.exchange v.reachable l.done l.at l.out _ c.apply_reading-answer.ensures
+          fits c.if-out-at-ge-LONGEST_ANSWER.true w.ensures.a_len_bound;
       so_far =
-          so_far_taken c.args.input.now l.i c.read_line-l.result c.read_line-l.ensures.value l.invariant.in_input c.if-l-input.false
-          l.exchange l.invariant.reachable l.done l.at l.out _ c.apply_reading-answer.ensures fits c.if-out-at-ge-LONGEST_ANSWER.true w.ensures.a_len_bound
-          w.result w.new.out w.ensures.value w.ensures.out_after
-          _ c.args.out.now same c.if-done-lt-LAST_LINE.true l.invariant.so_far;
-      first = λ p. first_taken _ _ _ (ends c.args.input.now l.i c.read_line-l.result c.read_line-l.ensures.value) l.invariant.first;
+          so_far_taken _ _ _ read v.in_input c.if-l-input.false l.exchange v.reachable l.done l.at l.out _ c.apply_reading-answer.ensures
+          fits c.if-out-at-ge-LONGEST_ANSWER.true w.ensures.a_len_bound w.result w.new.out w.ensures.value w.ensures.out_after
+          _ _ same c.if-done-lt-LAST_LINE.true v.so_far;
+      first = λ p. first_taken _ _ _ (ends _ _ _ read) v.first;
     }
 
 -- ---- the loop is left
