@@ -37,6 +37,7 @@ pub fn apply_reading(x: &mut Exchange, reading: Option<Call>) -> Answer
 
 // Takes one line, without its byte 10, and writes its answer line at the start of out. 21 where out is too short: the state and out stay
 // as they are.
+#[tactic(auto, using(crate::proofs::LineRun::line_outcome_is, crate::proofs::LineRun::take_put, crate::proofs::LineRun::take_bound, crate::proofs::LineRun::take_short, crate::proofs::LineRun::take_fits))]
 pub fn take_line(x: Exchange, number: u32, line: &[u8], out: &mut [u8]) -> Taken
     requires { Reachable x }
     ensures value { result ≡ taken_of x number line.now (length out.old) }
