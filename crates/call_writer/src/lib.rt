@@ -1,7 +1,7 @@
 // The call writer: a call's line with its byte 10, into a lent buffer at a place.
 #![tactic(auto)]
 
-ghost use Rattle.std.specs.Prelude.{◌≡◌, [], ◌∷◌, ◌++◌, ◌+◌, ◌-◌, ◌≤◌, ◌<◌, length, take};
+ghost use Rattle.std.specs.Prelude.{◌≡◌, [], ◌∷◌, ◌++◌, ◌+◌, ◌≤◌, ◌<◌, length};
 ghost use Rattle.decimal.specs.Buffer.{put_at, put_from};
 ghost use Rattle.lines.specs.CallLines.{call_of};
 ghost use Rattle.lines.specs.CallText.{line_of_numbers, call_line};
