@@ -65,6 +65,7 @@ fn one_line(d: Day, input: &[u8], out: &mut [u8]) -> Fed
 {
     let end = line_end(input, 0);
     let kept = keep(d.line, d.len.min(KEPT_BYTES), input, end);
+    // a literal takes an array from a variable alone
     let line = kept.line;
     let begun = Day {
         len: kept.len,
@@ -81,6 +82,7 @@ fn one_line(d: Day, input: &[u8], out: &mut [u8]) -> Fed
     let mut text = [0; LONGEST_ANSWER];
     let ended = end_line(Day { len: 0, ..begun }, kept.len, &mut text);
     let wrote = put_text(out, &text[..ended.wrote]);
+    // an answer line is never empty: out is too short for it
     if wrote == 0 {
         return Fed {
             day: d,
