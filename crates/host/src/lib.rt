@@ -22,6 +22,7 @@ pub struct Served {
 }
 
 // A fresh exchange, lent to two calls and then to a line, the host's first.
+#[tactic(auto, using(model::specs::Run::at_first, model::specs::Run::after_call), unfolding(crate::specs::Serving::served_of))]
 pub fn serve(a: Call, b: Call, line: &[u8], out: &mut [u8]) -> Served
     ensures { (result ≡ served_of a b line.now (length out.old))
         × (out.new ≡ put_into out.old (line_text (state_after_calls a b) 1 line.now)) }
