@@ -508,4 +508,4 @@ module _ {bytes : List ℕ} {from : ℕ} {values : List ℕ} {count i : ℕ} whe
         stored_fields values count v room r.eight r.zeros i ∙ sym (r.text ∙ last_field bytes i (take count values) v ended e)
 
 -- what the reader's loops need
-pub ruleset reading = (first_in, comma_in, reads_start, reads_first, reads_digit, reads_bad)
+pub ruleset reading = (first_in, comma_in, reads_start, reads_first, reads_digit)

@@ -94,17 +94,22 @@ fn no_fields(bytes: &[u8], from: usize) -> Fields
     }
 }
 
-// Reads fields from a place on: "The field reader stops at the first byte that is neither digit nor comma".
+// Reads fields from a place on: "The field reader stops at the first byte that is neither digit nor comma". The outer loop goes field by
+// field and the inner one digit by digit; the outer is left by its label at a bad byte or the line's end.
 #[tactic(auto, using(crate::proofs::Scan::reading))]
 pub fn read_fields(bytes: &[u8], from: usize) -> Fields
     ensures { result ≡ fields_at bytes.now from }
 {
     let mut values = [0; 8];
+    let mut count = 0;
     let mut i = from;
-    for count in 0..MOST_NUMBERS {
+    let good = 'line: loop {
+        if count == MOST_NUMBERS {
+            break 'line false;
+        }
         // a field: its first digit, then the others up to the byte after them
         let FieldStep::Value(first) = first_step(bytes, i) else {
-            return no_fields(bytes, i);
+            break 'line false;
         };
         let mut value = first;
         i += 1;
@@ -112,19 +117,23 @@ pub fn read_fields(bytes: &[u8], from: usize) -> Fields
             match field_step(true, value, *b) {
                 FieldStep::Value(next) => value = next,
                 FieldStep::End => break 'digits,
-                FieldStep::Bad => return no_fields(bytes, i),
+                FieldStep::Bad => break 'line false,
             }
             i += 1;
         }
         values[count] = value;
+        count += 1;
         if !comma_at(bytes, i) {
-            return Fields {
-                count: count + 1,
-                values,
-                stop: i,
-            };
+            break 'line true;
         }
         i += 1;
+    };
+    if !good {
+        return no_fields(bytes, i);
     }
-    no_fields(bytes, i)
+    Fields {
+        count,
+        values,
+        stop: i,
+    }
 }

@@ -1,15 +1,23 @@
 -- `fields::read_fields` meets its contract.
 use mathlib.Core.Path.{◌≡◌, refl, sym, ◌∙◌}
 use mathlib.Core.Logic.{inl}
-use Rattle.std.specs.Prelude.{Option, None}
 use mathlib.Core.List.{List, []}
 use Prim.Native.Nat.{ℕ}
+use native.Mathlib.Omega.{arith}
+use Rattle.std.specs.Prelude.{Option, None}
 use Rattle.std.proofs.Common.{rules}
 use Rattle.fields.specs.declared.FieldStep.{FieldStep}
 use Rattle.fields.specs.declared.FieldStep.TheVariants.{Value, End, Bad}
-use Rattle.fields.proofs.Scan.{Ends, on_step, digit_end, reads_none, reads_full, reads_comma, reads_last}
+use Rattle.fields.proofs.Scan.{Ends, on_step, digit_end, reads_none, reads_full, reads_bad, reads_comma, reads_last}
 use Rattle.fields.proofs.read_fields.Goals as goal
-use Rattle.fields.proofs.read_fields.Goals.{in-Some+in-End, in_default-get}
+use Rattle.fields.proofs.read_fields.Goals.{then-count-eq-MOST_NUMBERS, else-count-eq-MOST_NUMBERS+in_default, else-count-eq-MOST_NUMBERS+in-Value+in-Some+in-Bad, else-count-eq-MOST_NUMBERS+in-Value+then-not-comma_at, in-Some+in-End, in_default-get}
+
+pub line-preserved : goal.line-preserved
+line-preserved c =
+    reads_comma
+    c.digits.invariant
+    (omega (arith, c.line.invariant.most, c.if-count-eq-MOST_NUMBERS.false))
+    (sym c.comma_at.ensures ∙ c.if-not-comma_at.false)
 
 -- a first byte that is no digit
 no_value : (d : FieldStep) → ((w : ℕ) → d ≡ Value w → ⊥) → (k : ℕ → Option (List ℕ)) → on_step d k None ≡ None
@@ -17,24 +25,39 @@ no_value (Value w) n k = absurd (n w refl)
 no_value End n k = refl
 no_value Bad n k = refl
 
-pub returns-in_default : goal.returns-in_default
-returns-in_default c =
-    let none_yet = no_value c.first_step.result c.in_default.not-Value in
-    c.no_fields.ensures ∙ reads_none c.loop-count.invariant (rw c.first_step.ensures at none_yet)
-
-pub returns-then-not-comma_at : goal.returns-then-not-comma_at
-returns-then-not-comma_at c =
-    let ended : Ends c.args.bytes.now c.digits.i = elim c.match-get.branch [
-      | in_default-get w ↦ inl (search rules)
-      | in-Some+in-End w ↦
+pub returns-then-not-good : goal.returns-then-not-good
+returns-then-not-good c =
+    elim c.if-count-eq-MOST_NUMBERS.branch [
+      | then-count-eq-MOST_NUMBERS w ↦
+          rw (c.no_fields.ensures, w.i-is) (reads_full c.line.invariant (omega (arith, w.if-count-eq-MOST_NUMBERS.true)))
+      | else-count-eq-MOST_NUMBERS+in_default w ↦
+          let none_yet = no_value w.first_step.result w.in_default.not-Value in
+          rw (c.no_fields.ensures, w.i-is) (reads_none c.line.invariant (rw w.first_step.ensures at none_yet))
+      | else-count-eq-MOST_NUMBERS+in-Value+in-Some+in-Bad w ↦
           let here = w.in-Some.ensures.lookup.3 in
-          digit_end c.args.bytes.now c.digits.i [] _ _ here.0 (rw (here.1 0) at (sym w.field_step.ensures ∙ w.in-End.is))
-    ] in
-    reads_last c.digits.invariant c.loop-count-test.true ended (sym c.comma_at.ensures ∙ c.if-not-comma_at.true)
+          rw (c.no_fields.ensures, w.i-is)
+          (reads_bad w.digits.invariant here.0 (rw (here.1 0) at (sym w.field_step.ensures ∙ w.in-Bad.is)))
+      | else-count-eq-MOST_NUMBERS+in-Value+then-not-comma_at w ↦ absurd cc
+    ]
 
-pub loop-count-preserved : goal.loop-count-preserved
-loop-count-preserved c =
-    reads_comma c.digits.invariant c.loop-count-test.true (sym c.comma_at.ensures ∙ c.if-not-comma_at.false)
-
+-- the last field
 pub returns : goal.returns
-returns c = c.no_fields-2.ensures ∙ reads_full c.loop-count.invariant c.loop-count-test.false
+returns c =
+    elim c.if-count-eq-MOST_NUMBERS.branch [
+      | then-count-eq-MOST_NUMBERS w ↦ absurd cc
+      | else-count-eq-MOST_NUMBERS+in_default w ↦ absurd cc
+      | else-count-eq-MOST_NUMBERS+in-Value+in-Some+in-Bad w ↦ absurd cc
+      | else-count-eq-MOST_NUMBERS+in-Value+then-not-comma_at w ↦
+          let ended : Ends c.args.bytes.now w.digits.i = elim w.match-get.branch [
+            | in_default-get x ↦ inl (search rules)
+            | in-Some+in-End x ↦
+                let here = x.in-Some.ensures.lookup.3 in
+                digit_end c.args.bytes.now w.digits.i [] _ _ here.0 (rw (here.1 0) at (sym x.field_step.ensures ∙ x.in-End.is))
+          ] in
+          rw (w.values-is, w.count-is, w.i-is)
+          (reads_last
+          w.digits.invariant
+          (omega (arith, c.line.invariant.most, w.if-count-eq-MOST_NUMBERS.false))
+          ended
+          (sym w.comma_at.ensures ∙ w.if-not-comma_at.true))
+    ]

@@ -10,5 +10,8 @@ invariant-digits l = Reads l.fn.bytes l.fn.from l.values l.count l.i true l.valu
 abbrev pub decreases-digits : goal.decreases-digits
 decreases-digits l = length l.bytes - l.i
 
-abbrev pub invariant-loop-count : goal.invariant-loop-count
-invariant-loop-count l = Reads l.fn.bytes l.fn.from l.values l.count l.i false 0
+abbrev pub invariant-line : goal.invariant-line
+invariant-line l = Reads l.fn.bytes l.fn.from l.values l.count l.i false 0
+
+abbrev pub decreases-line : goal.decreases-line
+decreases-line l = 8 - l.count
