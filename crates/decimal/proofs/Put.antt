@@ -168,3 +168,7 @@ run_more xs at t y u z p q r h e l =
 -- the whole run that fits
 pub run_all : (xs t y : List ℕ) (p : ℕ) → Run xs 0 t y p → length t ≤ length xs → (p ≡ put_count xs t) × (y ≡ put_into xs t)
 run_all xs t y p r h = put_whole xs t (omega (arith, r.place)) r.text h
+
+-- what a writer of nothing answers and leaves
+pub put_nothing : (out text : List ℕ) → length out < length text → (0 ≡ put_count out text) × (out ≡ put_into out text)
+put_nothing out text h = (sym (count_short out text h), sym (put_short out text h))

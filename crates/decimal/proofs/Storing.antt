@@ -39,9 +39,8 @@ module _ {entry : List ℕ} {n : ℕ} {out : List ℕ} {i m : ℕ} (s : Storing 
   storing_less h = by_order 9 m (λ more. absurd (omega (arith, digits_longer m more, digits_some (m / 10), s.place))) (λ less. less)
 
   -- a turn: the last digit is stored before those that are
-  pub storing_next : 1 < i → Storing entry n (set out (i - 1) (48 + (m - m / 10 * 10))) (i - 1) (m / 10)
-  storing_next two =
-      let h : 9 < m = storing_more two in
+  pub storing_next : 9 < m → Storing entry n (set out (i - 1) (48 + (m - m / 10 * 10))) (i - 1) (m / 10)
+  storing_next h =
       let digit : ℕ = 48 + (m - m / 10 * 10) in
       let is : digit ≡ 48 + m % 10 = omega arith in
       let l : length (digits m) ≡ length (digits (m / 10)) + 1 = digits_longer m h in
@@ -56,14 +55,24 @@ module _ {entry : List ℕ} {n : ℕ} {out : List ℕ} {i m : ℕ} (s : Storing 
         size = length-set out (i - 1) digit ∙ s.size;
       }
 
+  pub storing_next_by : 1 < i → Storing entry n (set out (i - 1) (48 + (m - m / 10 * 10))) (i - 1) (m / 10)
+  storing_next_by two = storing_next (storing_more two)
+
+  -- the digits that are left, written at the start
+  pub storing_rest : put_at out 0 (digits m) ≡ put_at entry 0 (digits n)
+  storing_rest = put_start out (digits m) ∙ ap (λ (j : ℕ). digits m ++ drop j out) s.place ∙ s.text
+
   -- one digit that is left, stored at the start
-  pub storing_one : i ≤ 1 → set out 0 (48 + m) ≡ put_at entry 0 (digits n)
+  pub storing_one : m ≤ 9 → set out 0 (48 + m) ≡ put_at entry 0 (digits n)
   storing_one h =
-      let one : digits m ≡ (48 + m) ∷ [] = digits_one m (storing_less h) in
+      let one : digits m ≡ (48 + m) ∷ [] = digits_one m h in
       let l : length (digits m) ≡ 1 = ap length one in
       joins [] out 0 i (48 + m) (omega (arith, l, s.place)) (omega (arith, l, s.place, s.room))
       ∙ ap (λ (d : List ℕ). d ++ drop i out) (sym one)
       ∙ s.text
 
+  pub storing_one_by : i ≤ 1 → set out 0 (48 + m) ≡ put_at entry 0 (digits n)
+  storing_one_by h = storing_one (storing_less h)
+
 -- what the loop needs
-pub ruleset storings = (storing_all, storing_place, storing_less, storing_next, storing_one)
+pub ruleset storings = (storing_all, storing_place, storing_less, storing_next_by, storing_one_by)
