@@ -1,5 +1,6 @@
 // Deposit, withdraw, order and cancel on the parts that they touch. Public for the crates above; what they ask of their parts holds of the
 // parts of every reachable state, and what they ask of numbers is what a call's form gives.
+// The parts are lent apart: a struct of them would be made for each call, and taken apart in it.
 #![tactic(auto)]
 
 ghost use Rattle.std.specs.Prelude.{◌≡◌, ◌<◌};

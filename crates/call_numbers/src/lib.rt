@@ -11,6 +11,7 @@ use lines::call::call_in;
 use model::call::Call;
 
 // The first count of the values are a call's kind number and its fields, and the rest are 0.
+// call_numbers says that the places after the count are 0, which an ArrayVec does not show.
 #[derive(Clone, Copy)]
 pub struct CallNumbers {
     pub count: usize,

@@ -25,6 +25,7 @@ pub struct LinePut {
 }
 
 // The paper's number of a call written: 0 where the line was written, whose length is told, and 21 where it was not.
+// A function and no From: its clause equals the definition of this name.
 pub fn written_code(w: Option<usize>) -> u32
     ensures { result ≡ written_code w }
 {
@@ -104,6 +105,7 @@ pub fn put_call_of_fields(kind: u32, fields: &[u32], out: &mut [u8], at: usize) 
 {
     match call_of_fields(kind, fields) {
         Some(call) => line_told(write_call(out, at, call)),
+        // The code is C's (LinePut).
         None => LinePut {
             code: 20,
             length: 0,
@@ -112,6 +114,7 @@ pub fn put_call_of_fields(kind: u32, fields: &[u32], out: &mut [u8], at: usize) 
 }
 
 // The same, told by the length alone; where the line does not fit, or the numbers are no call's (20), 0, and out is unchanged.
+// 0 and no Option: its clause equals written_length; C calls it as yeldozhym_call_line.
 pub fn write_call_of_fields(kind: u32, fields: &[u32], out: &mut [u8], at: usize) -> usize
     ensures value { result ≡ written_length (written_of (length out.old) at (line_of_reading (call_of («kind» ∷ fields.now)))) }
     ensures out_after { out.new ≡ put_from out.old at (line_of_reading (call_of («kind» ∷ fields.now))) }

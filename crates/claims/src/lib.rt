@@ -1,5 +1,7 @@
 // Claim on the parts that it touches. Public for the crates above; what it asks of its parts holds of the parts of every reachable state,
 // and what it asks of numbers is what a call's form gives.
+// A ticket is a number below 64, as in Round.tickets, of which count_of and Marked speak.
+// The parts are lent apart: a struct of them would be made for each call, and taken apart in it.
 #![tactic(auto)]
 
 ghost use Rattle.std.specs.Prelude.{◌≡◌, ◌<◌, ◌≤◌, ◌+◌};

@@ -1,4 +1,5 @@
 // What a host asks to bring a market back to closed: how many tickets its round still marks, and which to claim next.
+// Each asks that its state is reachable: hosts hold a plain Exchange or Day, and a type with the invariant would ask more of them.
 #![tactic(auto)]
 
 ghost use Rattle.std.specs.Prelude.{◌≡◌};

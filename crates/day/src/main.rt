@@ -59,6 +59,7 @@ impl<'a, C: Clock, W: Write> Replay<'a, C, W> {
         ensures { OnOk result (self.new ≡ after self.old input.now) }
     {
         let mut rest = input;
+        // How far it moves is in feed's answer alone, so no iterator steps here.
         while !rest.is_empty() {
             let fed = feed(self.day, rest, &mut self.out);
             self.day = fed.day;

@@ -8,8 +8,7 @@ ghost use Rattle.decimal.specs.Numbers.{NumberBounded};
 
 pub mod wide;
 
-// How many digits n has, at most ten. Ten rows, and not ilog10: it looks a power of ten up in an array, and takes four instructions a line of
-// the day more.
+// How many digits n has, at most ten. Ten rows, and no logarithm: std's ilog10 reads a table of powers, and is four instructions a line slower.
 #[tactic(auto, using(crate::proofs::Digits::digit_counts))]
 pub fn digit_count(n: u32) -> usize
     ensures value { result ≡ length (digits n) }
@@ -46,6 +45,7 @@ fn write_number(out: &mut [u8], n: u64, k: usize)
 }
 
 // Writes n, of k digits, at the start of out where it has that room, and answers how many bytes that took, else 0.
+// 0 and no Option where out is too short: put_count says it (specs/Buffer.antt).
 #[tactic(auto, using(crate::proofs::Put::puts))]
 fn put_digits(out: &mut [u8], n: u64, k: usize) -> usize
     requires { k ≡ length (digits n) }
@@ -61,6 +61,7 @@ fn put_digits(out: &mut [u8], n: u64, k: usize) -> usize
 
 // The number writer, of 32 bits: writes n at the start of out and answers how many bytes that took. As many bytes as n has digits are
 // enough, and no byte after them changes; where out is shorter, it answers 0 and changes no byte.
+// 0 and no Option where out is too short: put_count says it (specs/Buffer.antt).
 #[tactic(auto, using(crate::proofs::Numbers::number_bounds))]
 pub fn put_number(out: &mut [u8], n: u32) -> usize
     ensures value { result ≡ put_count out.old (digits n) }

@@ -26,6 +26,8 @@ pub fn digit_count(n: u64) -> usize
 }
 
 // The number writer, of 64 bits: as crate::put_number of 32.
+// 0 and no Option where out is too short: put_count says it (specs/Buffer.antt).
+// Both widths stay: request L3 and README name them; each is a line over put_digits.
 #[tactic(auto, using(crate::proofs::Numbers::number_bounds))]
 pub fn put_number(out: &mut [u8], n: u64) -> usize
     ensures value { result ≡ put_count out.old (digits n) }

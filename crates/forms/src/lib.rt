@@ -11,6 +11,7 @@ ghost use Rattle.parts.specs.Parts.{form_of};
 use model::answer::Refusal;
 
 // The numbers that a call may name.
+// LAST_MEMBER and LAST_TOKEN are also in ledger, which is licensed alone; the edits token_four and member_sixteen change these.
 const LAST_MEMBER: u32 = 15;
 
 const LAST_TOKEN: u32 = 3;

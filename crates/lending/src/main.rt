@@ -105,7 +105,8 @@ fn room_of(number: u32) -> usize
 
 // ---- the host
 
-// The exchange, and the orders gathered for the next list call: the first count of the list. (An ArrayVec would want an order by default, and there is none.)
+// The exchange, and the orders gathered for the next list call: the first count of the list.
+// ArrayVec's blank would need an OrderFields by default, which means nothing in the model; the bound stands once, in the invariant.
 #[derive(Drop)]
 struct Host {
     exchange: Exchange,

@@ -35,6 +35,7 @@ pub enum Refusal {
 pub type Answer = Result<(u32, u32), Refusal>;
 
 // An answer, and the state after it.
+// A record of its own: step_of gives it.
 #[derive(Clone, Copy)]
 pub struct Outcome {
     pub answer: Answer,
@@ -42,6 +43,7 @@ pub struct Outcome {
 }
 
 // The paper's number of a refusal.
+// A function and no From: its clause equals the definition of this name.
 pub fn refusal_code(why: Refusal) -> u32
     ensures { result ≡ refusal_code why }
 {
@@ -49,6 +51,7 @@ pub fn refusal_code(why: Refusal) -> u32
 }
 
 // An answer's code.
+// A function and no From: its clause equals code_of.
 pub fn code(answer: Answer) -> u32
     ensures { result ≡ code_of answer }
 {
@@ -59,6 +62,7 @@ pub fn code(answer: Answer) -> u32
 }
 
 // An answer's first number, 0 where it is refused.
+// A line each, here and in second; one form over a closure is no plainer.
 pub fn first(answer: Answer) -> u32
     ensures { result ≡ first_of answer }
 {

@@ -65,6 +65,7 @@ pub struct Market {
 
 // supply is deposits less withdrawals by token, residue (the paper's tray) what rounding left by token; market n stands at
 // place n - 1; last is the last block accepted.
+// Arrays: there is no heap, and the sizes are the paper's.
 #[derive(Clone, Copy)]
 pub struct Exchange {
     pub ledger: Ledger,

@@ -55,6 +55,7 @@ impl<C: Clock, W: Write> Printer<'_, C, W> {
     // A number, and what is left of it by tenths down to its first digit.
     fn try_tenths(&mut self, n: u64) -> io::Result<()> {
         let mut m = n;
+        // No index: what is left by tenths.
         while 0 < m {
             self.try_both(m)?;
             m /= 10;

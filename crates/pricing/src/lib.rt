@@ -187,6 +187,7 @@ fn linear_price(side: Side, hi: Price, lo: Price, k: u32, length: u32) -> Price
 }
 
 // A price rounded up to a step, but never above hi. Rounded up it can pass 32 bits.
+// Each rounding has its own, as above.
 #[tactic(auto, using(crate::proofs::Prices::step_up_close))]
 fn stepped_up(p: Price, hi: Price) -> Price
     ensures { result.0 ≡ stepped_up hi.0 p.0 }

@@ -6,6 +6,7 @@ use model::state::{Exchange, fresh};
 
 // Between two pieces: the state, how many lines were answered, and the first len bytes, at most 81, of the line that has begun. Lines are
 // no longer read once done is 4,294,967,295.
+// len beside the bytes: stream_of reads a Day so.
 #[derive(Clone, Copy)]
 pub struct Day {
     pub exchange: Exchange,
@@ -15,6 +16,7 @@ pub struct Day {
 }
 
 // The day after bytes of a piece, how many of them were taken, and how many bytes of answer lines were written.
+// FedBy speaks of its fields.
 #[derive(Clone, Copy)]
 pub struct Fed {
     pub day: Day,

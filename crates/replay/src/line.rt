@@ -1,4 +1,5 @@
 // One line taken.
+// Each asks that its state is reachable: hosts hold a plain Exchange or Day, and a type with the invariant would ask more of them.
 ghost use Rattle.std.specs.Prelude.{◌≡◌, ◌≤◌, length};
 ghost use Rattle.decimal.specs.Buffer.{put_into};
 ghost use Rattle.model.specs.Run.{Reachable};
@@ -13,6 +14,7 @@ use model::call::Call;
 use model::state::Exchange;
 
 // A line's answer, and how many bytes its answer line took.
+// taken_of gives it; used is 0 where the answer is 21.
 #[derive(Clone, Copy)]
 pub struct Answered {
     pub answer: Answer,
@@ -20,6 +22,7 @@ pub struct Answered {
 }
 
 // What is answered, and the state after it.
+// taken_of gives it.
 #[derive(Clone, Copy)]
 pub struct Taken {
     pub answered: Answered,

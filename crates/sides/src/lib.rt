@@ -49,6 +49,7 @@ pub fn totals_of(r: Round, side: Side) -> Totals
 }
 
 // The market of a ticket's order, 1 where it is free.
+// Two lines each, here and in ticket_member; one form over a closure is no plainer.
 pub fn ticket_market(t: Ticket) -> u32
     ensures { result ≡ ticket_market t.state }
 {

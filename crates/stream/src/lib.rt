@@ -1,4 +1,5 @@
 // A day's bytes taken as they come, in pieces of any size.
+// Each asks that its state is reachable: hosts hold a plain Exchange or Day, and a type with the invariant would ask more of them.
 #![tactic(auto)]
 
 ghost use Rattle.std.specs.Prelude.{◌≡◌, ◌≤◌, ◌<◌, length, take};
@@ -126,6 +127,7 @@ fn unbroken(text: &[u8]) -> &[u8]
 }
 
 // Writes a text at the start of out and answers its length: 0, with out unchanged, where out is too short.
+// 0 and no Option: its clause equals put_count.
 #[tactic(auto, unfolding(decimal::specs::Buffer::put_at, decimal::specs::Buffer::put_into, decimal::specs::Buffer::put_count))]
 pub fn put_text(out: &mut [u8], text: &[u8]) -> usize
     ensures value { result ≡ put_count out.old text.now }

@@ -33,6 +33,7 @@ pub extern "C" fn yeldozhym_day(input: &[u8], out: &mut [u8]) -> usize
 
 // Writes the line of the call that a kind number and fields are, with its byte 10, into out from a place on. Answers its length; where it does not
 // fit there (21), or they are no call's (20), 0, and out is unchanged.
+// 0 and no Option: its clause equals written_length, and C calls it. Two exports: C calls both.
 #[unsafe(no_mangle)]
 pub extern "C" fn yeldozhym_call_line(
     kind: u32,
@@ -48,6 +49,7 @@ pub extern "C" fn yeldozhym_call_line(
 
 // The same with the code beside the length, which tells the two causes of 0 apart: 0 and the length; 20 and 0 where they are no call's, be there room or
 // not; 21 and 0 where the line does not fit.
+// Two exports: C calls both.
 #[unsafe(no_mangle)]
 pub extern "C" fn yeldozhym_put_call(
     kind: u32,
