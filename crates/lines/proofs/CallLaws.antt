@@ -8,7 +8,7 @@ use native.Mathlib.Numerals.{add-one}
 use native.Mathlib.Omega.{arith}
 use native.Mathlib.Nat.{le_of_suc-le-suc, not-suc-le-zero}
 use lib.ListN.{length, get_or, take, drop, drop_of_length-le}
-use lib.Seq.{drop-cons, drop-drop}
+use lib.Seq.{take_all, drop-cons, drop-drop}
 use lib.Dec.{leb, eqb}
 use borrow.Author.Tests.{eq-eqb, ne_eqb, leb-true, leb-false, eqb-true}
 use Rattle.units.proofs.Cases.{by_test}
@@ -51,6 +51,9 @@ no_eight (a ∷ (b ∷ (c ∷ (d ∷ (e ∷ []))))) q = absurd (omega (arith, q)
 no_eight (a ∷ (b ∷ (c ∷ (d ∷ (e ∷ (f ∷ [])))))) q = absurd (omega (arith, q))
 no_eight (a ∷ (b ∷ (c ∷ (d ∷ (e ∷ (f ∷ (g ∷ []))))))) q = absurd (omega (arith, q))
 no_eight (a ∷ (b ∷ (c ∷ (d ∷ (e ∷ (f ∷ (g ∷ (h ∷ l)))))))) q = no_seven a b c d e f g h l
+
+pub no_more : (values : List ℕ) (count : ℕ) → length values ≡ 8 → 8 < count → None ≡ call_of (take count values)
+no_more values count e h = rw (take_all count values (omega (arith, e, h))) (no_eight values (omega (arith, e)))
 
 -- nor more than it keeps
 pub no_many : (l : List ℕ) → 8 < length l → None ≡ call_of l

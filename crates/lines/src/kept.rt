@@ -2,7 +2,7 @@
 ghost use Rattle.std.specs.Prelude.{◌≡◌, ◌++◌, ◌≤◌, length, take};
 ghost use Rattle.lines.specs.Kept.{kept_bytes};
 
-// A line that has begun: its first bytes, at most 81.
+// A line that has begun: its first bytes, at most 81, are the first len of line. What keep promises names both, and a day has them so.
 #[derive(Clone, Copy)]
 pub struct Kept {
     pub len: usize,
@@ -13,6 +13,7 @@ pub const KEPT_BYTES: usize = 81;
 
 // The line begun, with the first end bytes of the input after it. For the crates above: it asks that no more than 81 bytes were kept, and that
 // the input has so many.
+#[tactic(auto, using(crate::proofs::KeptLaws::kept_more))]
 pub fn keep(begun: [u8; 81], before: usize, input: &[u8], end: usize) -> Kept
     requires before_le_kept_bytes { before ≤ kept_bytes }
     requires end_in_bounds { end ≤ length input.now }
@@ -21,15 +22,10 @@ pub fn keep(begun: [u8; 81], before: usize, input: &[u8], end: usize) -> Kept
     ensures line_value { take result.len result.line ≡ take kept_bytes (take before begun ++ take end input.now) }
 {
     let mut line = begun;
-    let mut len = before;
-    let mut i: usize = 0;
-    while i < end {
-        if len == KEPT_BYTES {
-            break;
-        }
-        line[len] = input[i];
-        len = len + 1;
-        i = i + 1;
+    let more = end.min(KEPT_BYTES - before);
+    line[before..before + more].copy_from_slice(&input[..more]);
+    Kept {
+        len: before + more,
+        line,
     }
-    Kept { len, line }
 }
