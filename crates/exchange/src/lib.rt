@@ -1,4 +1,5 @@
-// The calls, each in a state that calls can leave: on a state lent to the call, and by value. A call's work is done on the parts that it touches, where they lie.
+// The calls, each in a state that calls can leave: on a state lent to the call, and by value. A call's work is done on the parts that it touches, where they
+// lie; a member's row, and two cells of the residue, are taken out, changed and put back.
 #![tactic(auto)]
 
 ghost use Rattle.std.specs.Prelude.{◌≡◌, Ok};
@@ -19,14 +20,18 @@ fn on_account(x: &mut Exchange, member: u32, token: u32, ticket: u32, act: Accou
     requires { Reachable x.old × PlacesExist (Account member token ticket act) }
     ensures { record { answer = result; exchange = x.new } ≡ work_done x.old (Ok (Account member token ticket act)) }
 {
-    account_work(
-        &mut x.ledger.rows[member as usize],
+    let m = member as usize;
+    let mut row = x.ledger.rows[m];
+    let answer = account_work(
+        &mut row,
         &mut x.supply[token as usize],
         &mut x.tickets[ticket as usize],
         member,
         token,
         act,
-    )
+    );
+    x.ledger.rows[m] = row;
+    answer
 }
 
 // Work on a market, a member's row and the last block.
@@ -34,14 +39,18 @@ fn on_market(x: &mut Exchange, market: u32, member: u32, block: Block, act: Mark
     requires { Reachable x.old × PlacesExist (Market market member block act) }
     ensures { record { answer = result; exchange = x.new } ≡ work_done x.old (Ok (Market market member block act)) }
 {
-    market_work(
+    let m = member as usize;
+    let mut row = x.ledger.rows[m];
+    let answer = market_work(
         &mut x.markets[(market - 1) as usize],
-        &mut x.ledger.rows[member as usize],
+        &mut row,
         &mut x.last,
         market,
         block,
         act,
-    )
+    );
+    x.ledger.rows[m] = row;
+    answer
 }
 
 // Work on a ticket and its market.
@@ -68,18 +77,19 @@ fn on_claim(x: &mut Exchange, ticket: u32) -> Answer
 {
     let k = ticket as usize;
     let market = ticket_market(x.tickets[k]);
-    let member = ticket_member(x.tickets[k]);
-    // two places of one array
+    let m = ticket_member(x.tickets[k]) as usize;
+    let mut row = x.ledger.rows[m];
     let mut quote = x.residue[0];
     let mut base = x.residue[market as usize];
     let answer = claims::claim(
         &mut x.tickets[k],
         &mut x.markets[(market - 1) as usize],
-        &mut x.ledger.rows[member as usize],
+        &mut row,
         &mut quote,
         &mut base,
         ticket,
     );
+    x.ledger.rows[m] = row;
     x.residue[0] = quote;
     x.residue[market as usize] = base;
     answer

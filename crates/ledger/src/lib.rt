@@ -133,7 +133,7 @@ pub fn balance(l: Ledger, member: u32, token: u32) -> Entry
     Ok(cell_of(row_of(l, member), token))
 }
 
-// Adds to a balance.
+// Adds to a balance: the member's row taken out, changed and put back.
 #[tactic(auto, using(crate::proofs::Rows::credit_by_row), unfolding(crate::specs::Postings::credit_of, crate::specs::Balances::row_of, crate::specs::Balances::with_row))]
 pub fn credit(l: &mut Ledger, member: u32, token: u32, n: Amount) -> Entry
     ensures { record { entry = result; ledger = l.new } ≡ credit_of l.old member token n.0 }
@@ -141,7 +141,11 @@ pub fn credit(l: &mut Ledger, member: u32, token: u32, n: Amount) -> Entry
     if LAST_MEMBER < member {
         return Err(Fault::NoSuchMember);
     }
-    credit_row(&mut l.rows[member as usize], token, n)
+    let m = member as usize;
+    let mut row = l.rows[m];
+    let entry = credit_row(&mut row, token, n);
+    l.rows[m] = row;
+    entry
 }
 
 // Takes from a balance.
@@ -152,5 +156,9 @@ pub fn debit(l: &mut Ledger, member: u32, token: u32, n: Amount) -> Entry
     if LAST_MEMBER < member {
         return Err(Fault::NoSuchMember);
     }
-    debit_row(&mut l.rows[member as usize], token, n)
+    let m = member as usize;
+    let mut row = l.rows[m];
+    let entry = debit_row(&mut row, token, n);
+    l.rows[m] = row;
+    entry
 }

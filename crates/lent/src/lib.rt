@@ -1,4 +1,4 @@
-// The state lent to the call: a host keeps one exchange; each function takes it by &mut, and leaves in it the state after the call.
+// The state lent to the call: a host keeps one exchange; each function takes it by &mut, makes the call by value and stores the state after it.
 #![tactic(auto)]
 
 ghost use Rattle.std.specs.Prelude.{◌≡◌, ◌≤◌, length};
@@ -8,12 +8,12 @@ ghost use Rattle.model.specs.Run.{Reachable, step_of};
 ghost use Rattle.model.specs.OrderLists.{orders_of};
 ghost use Rattle.replay.specs.Lines.{line_text, taken_of};
 
-use exchange::apply;
+use exchange::step;
 use model::answer::Answer;
 use model::call::Call;
 use model::orders::{AnswerPlace, OrderFields};
 use model::state::Exchange;
-use order_list::apply_orders;
+use order_list::place_orders;
 use replay::line::{Answered, take_line};
 
 // One call: its answer. x is then the state after it.
@@ -21,7 +21,9 @@ pub fn step_lent(x: &mut Exchange, c: Call) -> Answer
     requires { Reachable x.old }
     ensures { (result ≡ (step_of x.old c).answer) × (x.new ≡ (step_of x.old c).exchange) }
 {
-    apply(x, c)
+    let o = step(*x, c);
+    *x = o.exchange;
+    o.answer
 }
 
 // One line, without its byte 10: its answer line is at the start of out, x is the state after it. 21 where out is too short: x and out stay
@@ -50,5 +52,7 @@ pub fn place_orders_lent(
         × (x.new ≡ (orders_of x.old list.now answers.old).exchange)
         × (answers.new ≡ (orders_of x.old list.now answers.old).answers) }
 {
-    apply_orders(x, list, answers)
+    let o = place_orders(*x, list, answers);
+    *x = o.exchange;
+    o.answer
 }

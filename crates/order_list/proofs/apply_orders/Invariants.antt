@@ -1,5 +1,0 @@
-use Rattle.order_list.proofs.Turns.{Made}
-use Rattle.order_list.proofs.apply_orders.Given as goal
-
-abbrev pub invariant-loop-i : goal.invariant-loop-i
-invariant-loop-i l = Made l.fn.x l.list l.x l.answers l.i
