@@ -34,6 +34,11 @@ cond_same : (t : Bool) (r : Option Call) → cond t r r ≡ r
 cond_same true r = refl
 cond_same false r = refl
 
+-- no other kind has two fields
+pub no_two : (k a b : ℕ) → (k ≡ 4 → ⊥) → (k ≡ 7 → ⊥) → (k ≡ 9 → ⊥) → (k ≡ 11 → ⊥) → None ≡ of_kind k (a ∷ (b ∷ []))
+unfolding of_kind
+no_two k a b h4 h7 h9 h11 = simp (ne_eqb k 4 h4, ne_eqb k 7 h7, ne_eqb k 9 h9, ne_eqb k 11 h11, cond_same)
+
 -- ---- the call of so many numbers
 
 pub no_seven : (k a b c d e f g : ℕ) (ns : List ℕ) → None ≡ of_kind k (a ∷ (b ∷ (c ∷ (d ∷ (e ∷ (f ∷ (g ∷ ns)))))))

@@ -1,5 +1,5 @@
 // Call lines, read.
-ghost use Rattle.std.specs.Prelude.{◌≡◌, ◌+◌, [], ◌∷◌, length, drop, take};
+ghost use Rattle.std.specs.Prelude.{◌≡◌, ◌+◌, length, drop, take};
 ghost use Rattle.lines.specs.CallLines.{call_of, reading_of, line_in, line_at};
 ghost use Rattle.lines.specs.ReadingCode.{reading_code, Tells};
 
