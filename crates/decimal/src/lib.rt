@@ -28,12 +28,13 @@ pub fn digit_count(n: u32) -> usize
     }
 }
 
-// Writes n, of k digits, at the start of out. It asks for that room. All writers of both widths end here.
+// Writes n, of k digits, at the start of out and answers how many bytes that took. It asks for that room. All writers of both widths end here.
 #[tactic(auto, using(crate::proofs::Storing::storings))]
-fn write_number(out: &mut [u8], n: u64, k: usize)
+fn write_number(out: &mut [u8], n: u64, k: usize) -> usize
     requires count { k ≡ length (digits n) }
     requires room { k ≤ length out.old }
-    ensures { out.new ≡ put_at out.old 0 (digits n) }
+    ensures value { result ≡ length (digits n) }
+    ensures out_after { out.new ≡ put_at out.old 0 (digits n) }
 {
     let mut m = n;
     for i in (1..k).rev() {
@@ -42,6 +43,7 @@ fn write_number(out: &mut [u8], n: u64, k: usize)
         m = q;
     }
     out[0] = (48 + m) as u8;
+    k
 }
 
 // Writes n, of k digits, at the start of out where it has that room, and answers how many bytes that took, else 0.
@@ -55,8 +57,7 @@ fn put_digits(out: &mut [u8], n: u64, k: usize) -> usize
     if out.len() < k {
         return 0;
     }
-    write_number(out, n, k);
-    k
+    write_number(out, n, k)
 }
 
 // The number writer, of 32 bits: writes n at the start of out and answers how many bytes that took. As many bytes as n has digits are
@@ -81,8 +82,8 @@ pub fn write_field(out: &mut [u8], at: usize, n: u32, end: u8) -> usize
     ensures out_after { out.new ≡ put_at out.old at (digits n ++ («end» ∷ [])) }
 {
     let k = digit_count(n);
-    write_number(&mut out[at..], n as u64, k);
-    let stop = at + k;
+    let used = write_number(&mut out[at..], n as u64, k);
+    let stop = at + used;
     out[stop] = end;
     stop + 1
 }
