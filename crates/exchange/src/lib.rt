@@ -130,6 +130,8 @@ pub fn step(x: Exchange, c: Call) -> Outcome
     Outcome { answer, exchange }
 }
 
+// The calls by value, one by one: docs/CLAUSES.md has each for hosts, with its definition.
+
 // 1 Deposit.
 #[tactic(auto, unfolding(model::specs::Run::step_of, model::specs::Calls::deposit_of))]
 pub fn deposit(x: Exchange, member: u32, token: u32, amount: u32) -> Outcome

@@ -1,4 +1,5 @@
 // The state lent to the call: a host keeps one exchange; each function takes it by &mut, makes the call by value and stores the state after it.
+// Document 01 asks for this form over the calls by value, and document 02 (L5) for the list's.
 #![tactic(auto)]
 
 ghost use Rattle.std.specs.Prelude.{◌≡◌, ◌≤◌, length};

@@ -55,7 +55,7 @@ fn write_refused(out: &mut [u8], at: usize, code: u32) -> usize
 }
 
 // Writes the answer line at the start of out and answers its length: 0, with out unchanged, where out is too short. None
-// is longer than LONGEST_ANSWER.
+// is longer than LONGEST_ANSWER. 0 and no Option: its clause equals put_count.
 pub fn write_answer(out: &mut [u8], number: u32, a: Answer) -> usize
     ensures value { result ≡ put_count out.old (answer_line number a) }
     ensures out_after { out.new ≡ put_into out.old (answer_line number a) }

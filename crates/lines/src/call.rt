@@ -13,7 +13,7 @@ pub struct LineAt {
     pub end: usize,
 }
 
-// The paper's number of a reading: 0 where it is a call, 20 where it is none.
+// The paper's number of a reading: 0 where it is a call, 20 where it is none. A function and no From: its clause equals the definition of this name.
 pub fn reading_code(r: Option<Call>) -> u32
     ensures { result ≡ reading_code r }
 {
