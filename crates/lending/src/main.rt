@@ -262,21 +262,19 @@ fn take_lines<C: Clock, W: Write>(to: &mut Printer<'_, C, W>, input: &[u8]) -> i
 fn main(rt: HostRuntime) {
     let mut told = rt.stderr();
     let mut buf = stdio::input_buffer();
-    let Some(input) = stdio::read_input(
+    let count = stdio::read_input(
         &rt,
         &mut rt.stdin(),
         &mut told,
         &mut buf,
         b"lending: cannot read",
         b"lending: the input has more than 1,048,576 bytes\n",
-    ) else {
-        return;
-    };
+    );
     let mut to = Printer {
         clock: &rt,
         to: &mut rt.stdout(),
     };
-    if let Err(e) = take_lines(&mut to, input) {
+    if let Err(e) = take_lines(&mut to, buf.get(..count).unwrap_or(&[])) {
         let _ = stdio::fail(&mut told, b"lending: cannot write", e);
     }
 }

@@ -134,17 +134,15 @@ fn post_lines<W: Write>(clock: &impl Clock, to: &mut W, input: &[u8]) -> io::Res
 fn main(rt: HostRuntime) {
     let mut told = rt.stderr();
     let mut buf = stdio::input_buffer();
-    let Some(input) = stdio::read_input(
+    let count = stdio::read_input(
         &rt,
         &mut rt.stdin(),
         &mut told,
         &mut buf,
         b"postings: cannot read",
         b"postings: the input has more than 1,048,576 bytes\n",
-    ) else {
-        return;
-    };
-    if let Err(e) = post_lines(&rt, &mut rt.stdout(), input) {
+    );
+    if let Err(e) = post_lines(&rt, &mut rt.stdout(), buf.get(..count).unwrap_or(&[])) {
         let _ = stdio::fail(&mut told, b"postings: cannot write", e);
     }
 }

@@ -3,7 +3,7 @@
 // has a number of turns that no run uses up.
 #![tactic(auto)]
 
-ghost use Rattle.std.specs.Prelude.{◌≡◌, ◌<◌, ◌≤◌, length, replicate, take, false, IfOk, IfErr, IfSome, MatchResult, OnOk};
+ghost use Rattle.std.specs.Prelude.{◌≡◌, ◌<◌, ◌≤◌, ◌-◌, length, replicate, take, false, IfOk, IfErr, IfSome, MatchResult, OnOk};
 ghost use Rattle.std.specs.Io.KnownBytes.{Appends, Consumes, IsAtEnd, ReadConsumes, WriteAppends};
 ghost use Rattle.stdio.specs.Failing.{TellsFailure};
 ghost use Rattle.stdio.specs.Passing.{passes, number_of};
@@ -194,29 +194,29 @@ pub fn fail<W: Write>(to: &mut W, what: &[u8], error: Error) -> io::Result<()>
     ended
 }
 
-// Reads the whole of an input, which has to be shorter than the buffer, and answers the part of the buffer that it fills. Where a read fails, or the
-// input is too long, it says so on standard error, in the caller's words, and answers none.
-pub fn read_input<'a, R: Read, W: Write>(
+// Reads the whole of an input, which has to be shorter than the buffer, and answers its length. Where a read fails, or the input is too long, it says so
+// on standard error, in the caller's words, and answers 0. It answers no slice: `whole` is about the buffer afterwards, of which a function that lends it can say nothing.
+pub fn read_input<R: Read, W: Write>(
     clock: &impl Clock,
     from: &mut R,
     told: &mut W,
-    buf: &'a mut [u8],
+    buf: &mut [u8],
     cannot_read: &[u8],
     too_long: &[u8],
-) -> Option<&'a [u8]>
-    ensures bound { IfSome result (λ input. length input.now < length buf.old) }
-    ensures whole { IfSome result (λ input. IfSome (R.remaining from.old) (λ xs. input.now ≡ xs)) }
+) -> usize
+    ensures bound { result ≤ length buf.old - 1 }
+    ensures whole { 0 < result → IfSome (R.remaining from.old) (λ xs. take result buf.new ≡ xs) }
 {
     match read_to_end(clock, from, buf) {
-        Ok(count) if count < buf.len() => Some(&buf[..count]),
+        Ok(count) if count < buf.len() => count,
         Ok(_) => {
             let _ = write(clock, told, too_long);
-            None
+            0
         }
         Err(stopped) => {
             // nothing is left to tell a second failure to
             let _ = fail(told, cannot_read, stopped.error);
-            None
+            0
         }
     }
 }
