@@ -478,9 +478,6 @@ module _ {bytes : List ℕ} {from : ℕ} {values : List ℕ} {count i : ℕ} whe
       → ((k : ℕ → Option (List ℕ)) → on_step (first_step bytes i) k None ≡ None) → no_fields (fields_end bytes i) ≡ fields_at bytes from
   reads_none r e = sym (r.text ∙ no_first bytes i (take count values) e)
 
-  pub reads_full : Reads bytes from values count i false 0 → 8 ≤ count → no_fields (fields_end bytes i) ≡ fields_at bytes from
-  reads_full r h = sym (r.text ∙ full bytes i (take count values) false 0 (omega (arith, length-take count values, r.eight)))
-
   module _ {v : ℕ} (r : Reads bytes from values count i true v) where
     pub reads_digit : i < length bytes → (w : ℕ) → field_step true v (get_or bytes i 0) ≡ Value w
         → Reads bytes from values count (i + 1) true w
@@ -489,6 +486,9 @@ module _ {bytes : List ℕ} {from : ℕ} {values : List ℕ} {count i : ℕ} whe
 
     pub reads_bad : i < length bytes → field_step true v (get_or bytes i 0) ≡ Bad → no_fields (fields_end bytes i) ≡ fields_at bytes from
     reads_bad h e = sym (r.text ∙ digit_bad bytes i (take count values) true v h e)
+
+    pub reads_full : 8 ≤ count → no_fields (fields_end bytes i) ≡ fields_at bytes from
+    reads_full h = sym (r.text ∙ full bytes i (take count values) true v (omega (arith, length-take count values, r.eight)))
 
     pub reads_comma : count < 8 → comma_at bytes i ≡ true → Reads bytes from (set values count v) (count + 1) (i + 1) false 0
     reads_comma room e =

@@ -104,9 +104,6 @@ pub fn read_fields(bytes: &[u8], from: usize) -> Fields
     let mut count = 0;
     let mut i = from;
     let good = 'line: loop {
-        if count == MOST_NUMBERS {
-            break 'line false;
-        }
         // a field: its first digit, then the others up to the byte after them
         let FieldStep::Value(first) = first_step(bytes, i) else {
             break 'line false;
@@ -120,6 +117,10 @@ pub fn read_fields(bytes: &[u8], from: usize) -> Fields
                 FieldStep::Bad => break 'line false,
             }
             i += 1;
+        }
+        // here and not before the field is read, where it takes 4 in 100 instructions of a line of the day more
+        if count == MOST_NUMBERS {
+            break 'line false;
         }
         values[count] = value;
         count += 1;

@@ -10,7 +10,7 @@ use Rattle.fields.specs.declared.FieldStep.{FieldStep}
 use Rattle.fields.specs.declared.FieldStep.TheVariants.{Value, End, Bad}
 use Rattle.fields.proofs.Scan.{Ends, on_step, digit_end, reads_none, reads_full, reads_bad, reads_comma, reads_last}
 use Rattle.fields.proofs.read_fields.Goals as goal
-use Rattle.fields.proofs.read_fields.Goals.{then-count-eq-MOST_NUMBERS, else-count-eq-MOST_NUMBERS+in_default, else-count-eq-MOST_NUMBERS+in-Value+in-Some+in-Bad, else-count-eq-MOST_NUMBERS+in-Value+then-not-comma_at, in-Some+in-End, in_default-get}
+use Rattle.fields.proofs.read_fields.Goals.{in_default, in-Value+in-Some+in-Bad, in-Value+then-count-eq-MOST_NUMBERS, in-Value+else-count-eq-MOST_NUMBERS+then-not-comma_at, in-Some+in-End, in_default-get}
 
 pub line-preserved : goal.line-preserved
 line-preserved c =
@@ -27,27 +27,27 @@ no_value Bad n k = refl
 
 pub returns-then-not-good : goal.returns-then-not-good
 returns-then-not-good c =
-    elim c.if-count-eq-MOST_NUMBERS.branch [
-      | then-count-eq-MOST_NUMBERS w ↦
-          rw (c.no_fields.ensures, w.i-is) (reads_full c.line.invariant (omega (arith, w.if-count-eq-MOST_NUMBERS.true)))
-      | else-count-eq-MOST_NUMBERS+in_default w ↦
-          let none_yet = no_value w.first_step.result w.in_default.not-Value in
-          rw (c.no_fields.ensures, w.i-is) (reads_none c.line.invariant (rw w.first_step.ensures at none_yet))
-      | else-count-eq-MOST_NUMBERS+in-Value+in-Some+in-Bad w ↦
+    elim c.match-first_step.branch [
+      | in_default w ↦
+          let none_yet = no_value c.first_step.result w.in_default.not-Value in
+          rw (c.no_fields.ensures, w.i-is) (reads_none c.line.invariant (rw c.first_step.ensures at none_yet))
+      | in-Value+in-Some+in-Bad w ↦
           let here = w.in-Some.ensures.lookup.3 in
           rw (c.no_fields.ensures, w.i-is)
           (reads_bad w.digits.invariant here.0 (rw (here.1 0) at (sym w.field_step.ensures ∙ w.in-Bad.is)))
-      | else-count-eq-MOST_NUMBERS+in-Value+then-not-comma_at w ↦ absurd cc
+      | in-Value+then-count-eq-MOST_NUMBERS w ↦
+          rw (c.no_fields.ensures, w.i-is) (reads_full w.digits.invariant (omega (arith, w.if-count-eq-MOST_NUMBERS.true)))
+      | in-Value+else-count-eq-MOST_NUMBERS+then-not-comma_at w ↦ absurd cc
     ]
 
 -- the last field
 pub returns : goal.returns
 returns c =
-    elim c.if-count-eq-MOST_NUMBERS.branch [
-      | then-count-eq-MOST_NUMBERS w ↦ absurd cc
-      | else-count-eq-MOST_NUMBERS+in_default w ↦ absurd cc
-      | else-count-eq-MOST_NUMBERS+in-Value+in-Some+in-Bad w ↦ absurd cc
-      | else-count-eq-MOST_NUMBERS+in-Value+then-not-comma_at w ↦
+    elim c.match-first_step.branch [
+      | in_default w ↦ absurd cc
+      | in-Value+in-Some+in-Bad w ↦ absurd cc
+      | in-Value+then-count-eq-MOST_NUMBERS w ↦ absurd cc
+      | in-Value+else-count-eq-MOST_NUMBERS+then-not-comma_at w ↦
           let ended : Ends c.args.bytes.now w.digits.i = elim w.match-get.branch [
             | in_default-get x ↦ inl (search rules)
             | in-Some+in-End x ↦
