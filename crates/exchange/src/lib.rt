@@ -1,5 +1,6 @@
 // The calls, each in a state that calls can leave: on a state lent to the call, and by value. A call's work is done on the parts that it touches, where they
 // lie; a member's row, and two cells of the residue, are taken out, changed and put back.
+// Each asks that its state is reachable: hosts hold a plain Exchange, and a type with the invariant would ask more of them.
 #![tactic(auto)]
 
 ghost use Rattle.std.specs.Prelude.{◌≡◌, Ok};

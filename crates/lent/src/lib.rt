@@ -1,5 +1,6 @@
 // The state lent to the call: a host keeps one exchange; each function takes it by &mut, makes the call by value and stores the state after it.
 // Document 01 asks for this form over the calls by value, and document 02 (L5) for the list's.
+// Each asks that its state is reachable: hosts hold a plain Exchange, and a type with the invariant would ask more of them.
 #![tactic(auto)]
 
 ghost use Rattle.std.specs.Prelude.{◌≡◌, ◌≤◌, length};

@@ -13,7 +13,7 @@ use model::state::Exchange;
 // "up to 64"
 const MOST_ORDERS: usize = 64;
 
-// The orders made singly from first to last, each answer in its place; or 22, and nothing changes.
+// The orders made singly from first to last, each answer in its place; or 22, and nothing changes. It asks that its state is reachable, as exchange does.
 #[tactic(auto, using(crate::proofs::Turns::none_made, crate::proofs::Turns::all_made), unfolding(model::specs::OrderLists::orders_of))]
 pub fn place_orders(x: Exchange, list: &[OrderFields], answers: &mut [AnswerPlace]) -> Outcome
     requires { Reachable x }
