@@ -21,7 +21,7 @@ pub struct CallNumbers {
 // Beside the kind number, as many fields as the values have places for.
 const MOST_FIELDS: usize = 7;
 
-// The numbers of a call, a row for each kind. None is above 4,294,967,295.
+// The numbers of a call, a row for each kind. None is above 4,294,967,295. No From: its clause equals call_numbers.
 #[tactic(auto, unfolding(crate::specs::Numbers::call_numbers))]
 pub fn numbers_of(call: Call) -> CallNumbers
     ensures value { result ≡ call_numbers call }
@@ -103,7 +103,7 @@ pub fn numbers_of(call: Call) -> CallNumbers
     }
 }
 
-// The call that a kind number and fields are, or none.
+// The call that a kind number and fields are, or none. No TryFrom: its clause equals call_of.
 pub fn call_of_fields(kind: u32, fields: &[u32]) -> Option<Call>
     ensures { result ≡ call_of («kind» ∷ fields.now) }
 {

@@ -55,7 +55,7 @@ fn line_size(numbers: &[u32]) -> usize
     size
 }
 
-// Writes the line of some numbers, with its byte 10, from index at on. It asks for that room.
+// Writes the line of some numbers, with its byte 10, from index at on. It asks for that room. No Display: its clause is put_at, in a lent buffer.
 fn write_numbers(out: &mut [u8], at: usize, numbers: &[u32])
     requires count_nonzero { (0 < length numbers.now) × (length numbers.now ≤ 8) }
     requires values_in_bounds { at + length (line_of_numbers numbers.now) + 1 ≤ length out.old }

@@ -8,7 +8,7 @@ ghost use Rattle.decimal.specs.Numbers.{NumberBounded};
 
 pub mod wide;
 
-// How many digits n has, at most ten. Ten rows, and no logarithm: std's ilog10 reads a table of powers, and is four instructions a line slower.
+// How many digits n has, at most ten. Ten rows say it as plainly as a logarithm, which has 0 apart.
 #[tactic(auto, using(crate::proofs::Digits::digit_counts))]
 pub fn digit_count(n: u32) -> usize
     ensures value { result ≡ length (digits n) }
@@ -29,6 +29,7 @@ pub fn digit_count(n: u32) -> usize
 }
 
 // Writes n, of k digits, at the start of out and answers how many bytes that took. It asks for that room. All writers of both widths end here.
+// No Display: the clause is put_at of digits, in a lent buffer.
 #[tactic(auto, using(crate::proofs::Storing::storings))]
 fn write_number(out: &mut [u8], n: u64, k: usize) -> usize
     requires count { k ≡ length (digits n) }

@@ -10,7 +10,7 @@ const LARGEST: u64 = 4_294_967_295;
 // A number of 64 bits has at most ten digits before its last ten.
 const TEN_TO_TEN: u64 = 10_000_000_000;
 
-// How many digits n has, at most twenty.
+// How many digits n has, at most twenty: the count of 64 bits is built on that of 32.
 #[tactic(auto, using(crate::proofs::Digits::digit_counts))]
 pub fn digit_count(n: u64) -> usize
     ensures value { result ≡ length (digits n) }

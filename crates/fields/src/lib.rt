@@ -95,7 +95,8 @@ fn no_fields(bytes: &[u8], from: usize) -> Fields
 }
 
 // Reads fields from a place on: "The field reader stops at the first byte that is neither digit nor comma". The outer loop goes field by
-// field and the inner one digit by digit; the outer is left by its label at a bad byte or the line's end.
+// field and the inner one digit by digit; the outer is left by its label at a bad byte or the line's end,
+// as document 01 asks for.
 #[tactic(auto, using(crate::proofs::Scan::reading))]
 pub fn read_fields(bytes: &[u8], from: usize) -> Fields
     ensures { result ≡ fields_at bytes.now from }

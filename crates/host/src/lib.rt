@@ -12,7 +12,7 @@ use model::call::Call;
 use model::state::{Exchange, fresh};
 use replay::line::Answered;
 
-// What the host was answered, and the state that it ends with.
+// What the host was answered, and the state that it ends with: served_of gives it.
 #[derive(Clone, Copy)]
 pub struct Served {
     pub first: Answer,

@@ -56,7 +56,7 @@ pub fn fresh() -> Ledger
     Ledger { rows: [row; 16] }
 }
 
-// The paper's number of an answer: 0 where the call is done.
+// The paper's number of an answer: 0 where the call is done. A function and no From: its clause equals the definition of this name.
 pub fn entry_code(e: Entry) -> u32
     ensures { result ≡ entry_code e }
 {
@@ -148,7 +148,7 @@ pub fn credit(l: &mut Ledger, member: u32, token: u32, n: Amount) -> Entry
     entry
 }
 
-// Takes from a balance.
+// Takes from a balance. It differs from credit in an operation, as debit_row from credit_row.
 #[tactic(auto, using(crate::proofs::Rows::debit_by_row), unfolding(crate::specs::Postings::debit_of, crate::specs::Balances::row_of, crate::specs::Balances::with_row))]
 pub fn debit(l: &mut Ledger, member: u32, token: u32, n: Amount) -> Entry
     ensures { record { entry = result; ledger = l.new } ≡ debit_of l.old member token n.0 }

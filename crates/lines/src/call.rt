@@ -23,7 +23,7 @@ pub fn reading_code(r: Option<Call>) -> u32
     }
 }
 
-// The call of a kind number and its fields, a row for each kind.
+// The call of a kind number and its fields, a row for each kind. No TryFrom: its clause equals call_of.
 #[tactic(auto, unfolding(crate::specs::CallLines::of_kind))]
 pub fn call_in(numbers: &[u32]) -> Option<Call>
     ensures { result ≡ call_of numbers.now }

@@ -1,7 +1,7 @@
 // A list of orders made by one call (document 02, L5): what it takes and where its answers go. The call's meaning stands in specs/OrderLists.antt.
 use crate::answer::Answer;
 
-// An order of the list: the fields of kind 3, in the paper's order.
+// An order of the list: the fields of kind 3, in the paper's order. Call::Order has the same; a conversion would list them again.
 #[derive(Clone, Copy)]
 pub struct OrderFields {
     pub ticket: u32,

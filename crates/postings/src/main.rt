@@ -104,7 +104,7 @@ fn amount_of(posted: Option<Entry>) -> u32
     posted.map_or(0, entry_amount)
 }
 
-// Writes a line's answer at the start of out and answers its length.
+// Writes a line's answer at the start of out and answers its length. No Display: its clause is put_at, in a lent buffer.
 #[tactic(auto, using(decimal::proofs::Digits::digits_bound))]
 fn write_posted(out: &mut [u8; LONGEST_ANSWER], number: u32, code: u32, amount: u32) -> usize
     ensures value { result ≡ length (posted_text number code amount) }

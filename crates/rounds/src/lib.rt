@@ -19,7 +19,7 @@ use units::{Amount, Block, Price};
 // A match comes so many blocks after its open, or later.
 const BLOCKS_TO_MATCH: u32 = 4;
 
-// 5 Open: a round with its terms, and nothing entered.
+// 5 Open: a round with its terms, numbers as Round holds them, and nothing entered.
 #[tactic(auto, unfolding(parts::specs::Parts::open_on))]
 pub fn open(
     market: &mut Market,

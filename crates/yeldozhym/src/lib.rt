@@ -65,7 +65,7 @@ pub extern "C" fn yeldozhym_put_call(
 
 // The length of the day's text. The answers go to a buffer that is used again for each part of them. The loop is that of write_day but for where answers go:
 // one function for both would take that as a closure that lends a part of a buffer, and its contract is longer than the loop. Both count the place in the
-// input, of which the proofs' record of what is worked so far speaks.
+// input: only feed's answer tells how much it moves, so no iterator steps here.
 #[tactic(auto, using(crate::proofs::Turns::day_reachable))]
 fn day_room(input: &[u8]) -> usize
     ensures { result ≡ length (day_of input.now) }
