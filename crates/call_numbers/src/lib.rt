@@ -7,7 +7,7 @@ ghost use Rattle.lines.specs.CallLines.{call_of};
 ghost use Rattle.lines.specs.CallText.{Small};
 ghost use Rattle.call_numbers.specs.Numbers.{call_numbers};
 
-use lines::call::call_in;
+use lines::call::call_with;
 use model::call::Call;
 
 // The first count of the values are a call's kind number and its fields, and the rest are 0.
@@ -17,9 +17,6 @@ pub struct CallNumbers {
     pub count: usize,
     pub values: [u32; 8],
 }
-
-// Beside the kind number, as many fields as the values have places for.
-const MOST_FIELDS: usize = 7;
 
 // The numbers of a call, a row for each kind. None is above 4,294,967,295. No From: its clause equals call_numbers.
 #[tactic(auto, unfolding(crate::specs::Numbers::call_numbers))]
@@ -107,12 +104,5 @@ pub fn numbers_of(call: Call) -> CallNumbers
 pub fn call_of_fields(kind: u32, fields: &[u32]) -> Option<Call>
     ensures { result ≡ call_of («kind» ∷ fields.now) }
 {
-    if MOST_FIELDS < fields.len() {
-        return None;
-    }
-    let count = fields.len() + 1;
-    let mut values = [0u32; 8];
-    values[0] = kind;
-    values[1..count].copy_from_slice(fields);
-    call_in(&values[..count])
+    call_with(kind, fields)
 }

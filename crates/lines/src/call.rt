@@ -1,5 +1,5 @@
 // Call lines, read.
-ghost use Rattle.std.specs.Prelude.{◌≡◌, ◌+◌, length, drop, take};
+ghost use Rattle.std.specs.Prelude.{◌≡◌, ◌∷◌, ◌+◌, length, drop, take};
 ghost use Rattle.lines.specs.CallLines.{call_of, reading_of, line_in, line_at};
 ghost use Rattle.lines.specs.ReadingCode.{reading_code, Tells};
 
@@ -25,21 +25,21 @@ pub fn reading_code(r: Option<Call>) -> u32
 
 // The call of a kind number and its fields, a row for each kind. No TryFrom: its clause equals call_of.
 #[tactic(auto, unfolding(crate::specs::CallLines::of_kind))]
-pub fn call_in(numbers: &[u32]) -> Option<Call>
-    ensures { result ≡ call_of numbers.now }
+pub fn call_with(kind: u32, fields: &[u32]) -> Option<Call>
+    ensures { result ≡ call_of («kind» ∷ fields.now) }
 {
-    match *numbers {
-        [1, member, token, amount] => Some(Call::Deposit {
+    match (kind, fields) {
+        (1, &[member, token, amount]) => Some(Call::Deposit {
             member,
             token,
             amount,
         }),
-        [2, member, token, amount] => Some(Call::Withdraw {
+        (2, &[member, token, amount]) => Some(Call::Withdraw {
             member,
             token,
             amount,
         }),
-        [3, ticket, member, market, side, limit, amount] => Some(Call::Order {
+        (3, &[ticket, member, market, side, limit, amount]) => Some(Call::Order {
             ticket,
             member,
             market,
@@ -47,17 +47,17 @@ pub fn call_in(numbers: &[u32]) -> Option<Call>
             limit,
             amount,
         }),
-        [4, ticket, member] => Some(Call::Cancel { ticket, member }),
-        [5, market, block, reference, slack, length] => Some(Call::Open {
+        (4, &[ticket, member]) => Some(Call::Cancel { ticket, member }),
+        (5, &[market, block, reference, slack, length]) => Some(Call::Open {
             market,
             block,
             reference,
             slack,
             length,
         }),
-        [6, ticket] => Some(Call::Enter { ticket }),
-        [7, market, block] => Some(Call::Match { market, block }),
-        [8, market, member, block, side, base, bound] => Some(Call::Bid {
+        (6, &[ticket]) => Some(Call::Enter { ticket }),
+        (7, &[market, block]) => Some(Call::Match { market, block }),
+        (8, &[market, member, block, side, base, bound]) => Some(Call::Bid {
             market,
             member,
             block,
@@ -65,10 +65,20 @@ pub fn call_in(numbers: &[u32]) -> Option<Call>
             base,
             bound,
         }),
-        [9, market, block] => Some(Call::Settle { market, block }),
-        [10, ticket] => Some(Call::Claim { ticket }),
-        [11, ticket, member] => Some(Call::Leave { ticket, member }),
+        (9, &[market, block]) => Some(Call::Settle { market, block }),
+        (10, &[ticket]) => Some(Call::Claim { ticket }),
+        (11, &[ticket, member]) => Some(Call::Leave { ticket, member }),
         _ => None,
+    }
+}
+
+// The call of a line's numbers, the kind first; no kind is no call.
+pub fn call_in(numbers: &[u32]) -> Option<Call>
+    ensures { result ≡ call_of numbers.now }
+{
+    match numbers {
+        [kind, fields @ ..] => call_with(*kind, fields),
+        [] => None,
     }
 }
 

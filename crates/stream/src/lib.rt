@@ -107,7 +107,9 @@ fn end_line(d: Day, len: usize, out: &mut [u8]) -> Fed
     requires longest_answer_in_bounds { longest_answer ≤ length out.old }
     ensures { LineEnded d (take len d.line) out.new result }
 {
-    let line = unbroken(&d.line[..len]);
+    // borrowed, d would be copied once more on the stack
+    let begun = d.line;
+    let line = unbroken(&begun[..len]);
     let n = line.len();
     let mut ended = [0; 82];
     ended[..n].copy_from_slice(line);
