@@ -82,7 +82,7 @@ pub fn row_of(l: Ledger, member: u32) -> Row
     l.rows[member as usize]
 }
 
-// A row's amount of a token. Public for the crates above, which ask for a token below 4.
+// A row's amount of a token. Public; it asks for a token below 4.
 #[tactic(auto, unfolding(crate::specs::Balances::cell_of))]
 pub fn cell_of(row: Row, token: u32) -> Amount
     requires { token < 4 }
